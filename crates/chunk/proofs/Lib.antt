@@ -1,0 +1,3 @@
+pub mod Walking
+pub mod Insides
+pub mod Forming

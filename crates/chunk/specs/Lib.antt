@@ -1,0 +1,4 @@
+pub mod Headers
+pub mod Ast
+pub mod Form
+pub mod Walks

@@ -1,0 +1,110 @@
+-- Fields of a list of bytes at a place (document 01, "The chunk"): little-endian integers and texts, or that bytes of them are missing. Assumes nothing.
+use Prim.Native.Nat.{ℕ, _+_, _*_, _≤_, _<_}
+use mathlib.Core.Path.{_≡_, refl}
+use native.Mathlib.Omega.{arith}
+use borrow.Author.Tests.{le-leb, lt-leb, leb-true}
+use mathlib.Core.List.{List}
+use mathlib.Core.Bool.{Bool, true, false}
+use lib.ListN.{length, getD, take, drop}
+use lib.Dec.{leb}
+use Rattle.cursor.specs.declared.Text.{Text}
+use Rattle.cursor.specs.declared.ByteRead.{ByteRead}
+use Rattle.cursor.specs.declared.ByteRead.the-variants.{Byte, NoByte}
+use Rattle.cursor.specs.declared.LineRead.{LineRead}
+use Rattle.cursor.specs.declared.LineRead.the-variants.{Line, NoLine}
+use Rattle.cursor.specs.declared.BitsRead.{BitsRead}
+use Rattle.cursor.specs.declared.BitsRead.the-variants.{Bits, NoBits}
+use Rattle.cursor.specs.declared.TextRead.{TextRead}
+use Rattle.cursor.specs.declared.TextRead.the-variants as read
+
+-- the numbers of 2, 4 and 8 bytes at a place, lowest byte first
+abbrev pub le2 : List ℕ → ℕ → ℕ
+le2 s at = getD s at 0 + 256 * getD s (at + 1) 0
+
+abbrev pub le4 : List ℕ → ℕ → ℕ
+le4 s at = le2 s at + 65536 * le2 s (at + 2)
+
+abbrev pub le8 : List ℕ → ℕ → ℕ
+le8 s at = le4 s at + 4294967296 * le4 s (at + 4)
+
+-- n bytes stand at the place
+unfoldable pub hasBytes : List ℕ → ℕ → ℕ → Bool
+hasBytes s at n = leb (at + n) (length s)
+
+unfoldable pub byteAt : List ℕ → ℕ → ByteRead
+byteAt s at = elim (hasBytes s at 1) [ true ↦ Byte (getD s at 0) | false ↦ NoByte ]
+
+unfoldable pub lineAt : List ℕ → ℕ → LineRead
+lineAt s at = elim (hasBytes s at 4) [ true ↦ Line (le4 s at) | false ↦ NoLine ]
+
+unfoldable pub bitsAt : List ℕ → ℕ → BitsRead
+bitsAt s at = elim (hasBytes s at 8) [ true ↦ Bits (le8 s at) | false ↦ NoBits ]
+
+-- a text: a length of two bytes, then as many bytes
+unfoldable pub textAt : List ℕ → ℕ → TextRead
+textAt s at =
+    elim (hasBytes s at 2) [
+      | true ↦ elim (hasBytes s (at + 2) (le2 s at)) [ true ↦ read.Text (record { start = at + 2; len = le2 s at }) | false ↦ read.NoText ]
+      | false ↦ read.NoText
+    ]
+
+-- the place behind a text
+abbrev pub endOf : Text → ℕ
+endOf t = t .start + t .len
+
+-- the bytes of a text
+abbrev pub bytesOf : List ℕ → Text → List ℕ
+bytesOf s t = take (t .len) (drop (t .start) s)
+
+module _ (s : List ℕ) (at n : ℕ) where
+  pub has-yes : at + n ≤ length s → hasBytes s at n ≡ true
+  unfolding hasBytes
+  has-yes h = le-leb (at + n) (length s) h
+
+  pub has-no : length s < at + n → hasBytes s at n ≡ false
+  unfolding hasBytes
+  has-no h = lt-leb (at + n) (length s) h
+
+  pub has-true : hasBytes s at n ≡ true → at + n ≤ length s
+  unfolding hasBytes
+  has-true e = leb-true (at + n) (length s) e
+
+-- what was read lies in the bytes
+module _ (s : List ℕ) (at : ℕ) where
+  pub byte-inside : (b : ℕ) → byteAt s at ≡ Byte b → at + 1 ≤ length s
+  unfolding byteAt
+  byte-inside b e = go (hasBytes s at 1) refl e
+    where
+      go : (t : Bool) → hasBytes s at 1 ≡ t → _≡_ {A = ByteRead} (elim t [ true ↦ Byte (getD s at 0) | false ↦ NoByte ]) (Byte b) → at + 1 ≤ length s
+      go true h g = has-true s at 1 h
+      go false h g = absurd (let z : _≡_ {A = ℕ} 0 1 = cc in omega arith)
+
+  pub line-inside : (l : ℕ) → lineAt s at ≡ Line l → at + 4 ≤ length s
+  unfolding lineAt
+  line-inside l e = go (hasBytes s at 4) refl e
+    where
+      go : (t : Bool) → hasBytes s at 4 ≡ t → _≡_ {A = LineRead} (elim t [ true ↦ Line (le4 s at) | false ↦ NoLine ]) (Line l) → at + 4 ≤ length s
+      go true h g = has-true s at 4 h
+      go false h g = absurd (let z : _≡_ {A = ℕ} 0 1 = cc in omega arith)
+
+  pub bits-inside : (b : ℕ) → bitsAt s at ≡ Bits b → at + 8 ≤ length s
+  unfolding bitsAt
+  bits-inside b e = go (hasBytes s at 8) refl e
+    where
+      go : (t : Bool) → hasBytes s at 8 ≡ t → _≡_ {A = BitsRead} (elim t [ true ↦ Bits (le8 s at) | false ↦ NoBits ]) (Bits b) → at + 8 ≤ length s
+      go true h g = has-true s at 8 h
+      go false h g = absurd (let z : _≡_ {A = ℕ} 0 1 = cc in omega arith)
+
+  pub text-inside : (t : Text) → textAt s at ≡ read.Text t → (at + 2 ≤ endOf t) × (endOf t ≤ length s)
+  unfolding textAt
+  text-inside t e = go (hasBytes s at 2) (hasBytes s (at + 2) (le2 s at)) refl e
+    where
+      whole : Text
+      whole = record { start = at + 2; len = le2 s at }
+
+      go : (u v : Bool) → hasBytes s (at + 2) (le2 s at) ≡ v
+          → _≡_ {A = TextRead} (elim u [ true ↦ elim v [ true ↦ read.Text whole | false ↦ read.NoText ] | false ↦ read.NoText ]) (read.Text t)
+          → (at + 2 ≤ endOf t) × (endOf t ≤ length s)
+      go true true h g = let k : whole ≡ t = cc in rw (← k) (omega arith, has-true s (at + 2) (le2 s at) h)
+      go true false h g = absurd (let z : _≡_ {A = ℕ} 0 1 = cc in omega arith)
+      go false v h g = absurd (let z : _≡_ {A = ℕ} 0 1 = cc in omega arith)

@@ -1,0 +1,5 @@
+pub mod Floor
+pub mod Numeral
+pub mod Folding
+pub mod Laws
+pub mod Rows

@@ -1,0 +1,227 @@
+-- What a field of a word is after the word was built or another field of it was set: instances of the laws of `Field`.
+-- And that opcodes are told apart by their numbers, that words stay below 2 ^ 32, and that sBx reads back what was stored. Assumes nothing.
+use Prim.Native.Nat.{ℕ, _+_, _*_, _/_, _%_, _-_, _^_, _<_, _≤_}
+use mathlib.Core.Bool.{true, _&&_}
+use mathlib.Core.List.{List, map}
+use mathlib.Core.Path.{_≡_, refl, sym, ap, subst, _∙_}
+use native.Mathlib.Nat.{mod-lt, mod-eq-of-lt}
+use native.Mathlib.Omega.{arith}
+use lib.Dec.{leb, ltb}
+use lib.IntN.{ℤ, pos, negsuc}
+use lib.ListN.{getD, List·getD-map}
+use borrow.Author.Tests.{ltb-true, lt-ltb, le-ltb}
+use Rattle.instructions.specs.Limits.{opSize, aSize, bSize, cSize, bxSize, opPlace, aPlace, bPlace, cPlace, bxPlace, maxArgSbx}
+use Rattle.instructions.specs.Field.{getAt, get-set-same, get-set-lower, get-set-higher, set-lt}
+use Rattle.instructions.specs.OpCodes.{codeOf, opCodes, opCodeOf, testMode}
+use Rattle.instructions.specs.Word.{opOf, opcodeOf, aOf, bOf, cOf, bxOf, sbxOf, setAOf, setBOf, setCOf, setBxOf, setSbxOf, excess, abcOf, aBxOf, aSbxOf}
+use Rattle.instructions.specs.declared.OpCode.{OpCode}
+use Rattle.instructions.specs.declared.OpCode.the-variants.{Move, LoadK, LoadBool, LoadNil, GetUpval, GetGlobal, GetTable, SetGlobal, SetUpval, SetTable, NewTable, OpSelf, Add, Sub, Mul, Div, Mod, Pow, Unm, Not, Len, Concat, Jmp, Eq, Lt, Le, Test, TestSet, Call, TailCall, Return, ForLoop, ForPrep, TForLoop, SetList, Close, Closure, VarArg}
+
+-- ---- opcodes
+
+pub opcode-code : (op : OpCode) → opCodeOf (codeOf op) ≡ op
+unfolding opCodeOf
+opcode-code Move = refl
+opcode-code LoadK = refl
+opcode-code LoadBool = refl
+opcode-code LoadNil = refl
+opcode-code GetUpval = refl
+opcode-code GetGlobal = refl
+opcode-code GetTable = refl
+opcode-code SetGlobal = refl
+opcode-code SetUpval = refl
+opcode-code SetTable = refl
+opcode-code NewTable = refl
+opcode-code OpSelf = refl
+opcode-code Add = refl
+opcode-code Sub = refl
+opcode-code Mul = refl
+opcode-code Div = refl
+opcode-code Mod = refl
+opcode-code Pow = refl
+opcode-code Unm = refl
+opcode-code Not = refl
+opcode-code Len = refl
+opcode-code Concat = refl
+opcode-code Jmp = refl
+opcode-code Eq = refl
+opcode-code Lt = refl
+opcode-code Le = refl
+opcode-code Test = refl
+opcode-code TestSet = refl
+opcode-code Call = refl
+opcode-code TailCall = refl
+opcode-code Return = refl
+opcode-code ForLoop = refl
+opcode-code ForPrep = refl
+opcode-code TForLoop = refl
+opcode-code SetList = refl
+opcode-code Close = refl
+opcode-code Closure = refl
+opcode-code VarArg = refl
+
+-- two functions that agree on the list of opcodes, which antt computes, agree on every opcode
+pub agree : {B : Type 0} (f g : OpCode → B) → map f opCodes ≡ map g opCodes → (op : OpCode) → f op ≡ g op
+unfolding opCodeOf
+agree f g h op =
+    let n = codeOf op in
+    let first = ap (λ (l : List _). getD l 0 (f Move)) h in
+    subst (λ (o : OpCode). f o ≡ g o) (opcode-code op)
+    (sym (List·getD-map f opCodes n Move) ∙ rw (h, first) refl ∙ List·getD-map g opCodes n Move)
+
+pub code-lt : (op : OpCode) → codeOf op < 38
+code-lt op = ltb-true (codeOf op) 38 (agree (λ o. ltb (codeOf o) 38) (λ o. true) refl op)
+
+-- those that stand before a jump are the opcodes 23 to 27
+pub test-code : (op : OpCode) → testMode op ≡ (leb 23 (codeOf op) && ltb (codeOf op) 28)
+test-code = agree testMode (λ o. leb 23 (codeOf o) && ltb (codeOf o) 28) refl
+
+-- ---- a word that was built
+
+module _ (op : OpCode) (a b c : ℕ) where
+  pub op-abc : opOf (abcOf op a b c) ≡ codeOf op
+  unfolding getAt abcOf
+  op-abc = omega (arith, code-lt op)
+
+  pub a-abc : aOf (abcOf op a b c) ≡ a % aSize
+  unfolding getAt abcOf
+  a-abc = omega (arith, code-lt op)
+
+  pub b-abc : bOf (abcOf op a b c) ≡ b % bSize
+  unfolding getAt abcOf
+  b-abc = omega (arith, code-lt op)
+
+  pub c-abc : cOf (abcOf op a b c) ≡ c % cSize
+  unfolding getAt abcOf
+  c-abc = omega (arith, code-lt op)
+
+  pub opcode-abc : opcodeOf (abcOf op a b c) ≡ op
+  opcode-abc = ap opCodeOf op-abc ∙ opcode-code op
+
+  pub abc-lt : abcOf op a b c < 2 ^ 32
+  unfolding abcOf
+  abc-lt = omega (arith, code-lt op)
+
+module _ (op : OpCode) (a bx : ℕ) where
+  pub op-a-bx : opOf (aBxOf op a bx) ≡ codeOf op
+  unfolding getAt aBxOf
+  op-a-bx = omega (arith, code-lt op)
+
+  pub a-a-bx : aOf (aBxOf op a bx) ≡ a % aSize
+  unfolding getAt aBxOf
+  a-a-bx = omega (arith, code-lt op)
+
+  pub bx-a-bx : bxOf (aBxOf op a bx) ≡ bx % bxSize
+  unfolding getAt aBxOf
+  bx-a-bx = omega (arith, code-lt op)
+
+  pub opcode-a-bx : opcodeOf (aBxOf op a bx) ≡ op
+  opcode-a-bx = ap opCodeOf op-a-bx ∙ opcode-code op
+
+  pub a-bx-lt : aBxOf op a bx < 2 ^ 32
+  unfolding aBxOf
+  a-bx-lt = omega (arith, code-lt op)
+
+-- ---- a word in which a field was set
+
+module _ (w v : ℕ) where
+  pub op-set-a : opOf (setAOf w v) ≡ opOf w
+  op-set-a = get-set-lower opPlace opSize aPlace aSize w v (omega arith) refl
+
+  pub a-set-a : aOf (setAOf w v) ≡ v % aSize
+  a-set-a = get-set-same aPlace aSize w v (omega arith) (omega arith)
+
+  pub b-set-a : bOf (setAOf w v) ≡ bOf w
+  b-set-a = get-set-higher bPlace bSize aPlace aSize w v (omega arith) (omega arith) refl
+
+  pub c-set-a : cOf (setAOf w v) ≡ cOf w
+  c-set-a = get-set-higher cPlace cSize aPlace aSize w v (omega arith) (omega arith) refl
+
+  pub bx-set-a : bxOf (setAOf w v) ≡ bxOf w
+  bx-set-a = get-set-higher bxPlace bxSize aPlace aSize w v (omega arith) (omega arith) refl
+
+  pub opcode-set-a : opcodeOf (setAOf w v) ≡ opcodeOf w
+  opcode-set-a = ap opCodeOf op-set-a
+
+  pub set-a-lt : w < 2 ^ 32 → setAOf w v < 2 ^ 32
+  set-a-lt = set-lt aPlace aSize (2 ^ 32 / (aPlace * aSize)) w v (omega arith) (omega arith)
+
+  pub op-set-b : opOf (setBOf w v) ≡ opOf w
+  op-set-b = get-set-lower opPlace opSize bPlace bSize w v (omega arith) refl
+
+  pub a-set-b : aOf (setBOf w v) ≡ aOf w
+  a-set-b = get-set-lower aPlace aSize bPlace bSize w v (omega arith) refl
+
+  pub b-set-b : bOf (setBOf w v) ≡ v % bSize
+  b-set-b = get-set-same bPlace bSize w v (omega arith) (omega arith)
+
+  pub c-set-b : cOf (setBOf w v) ≡ cOf w
+  c-set-b = get-set-lower cPlace cSize bPlace bSize w v (omega arith) refl
+
+  pub opcode-set-b : opcodeOf (setBOf w v) ≡ opcodeOf w
+  opcode-set-b = ap opCodeOf op-set-b
+
+  pub set-b-lt : w < 2 ^ 32 → setBOf w v < 2 ^ 32
+  set-b-lt = set-lt bPlace bSize (2 ^ 32 / (bPlace * bSize)) w v (omega arith) (omega arith)
+
+  pub op-set-c : opOf (setCOf w v) ≡ opOf w
+  op-set-c = get-set-lower opPlace opSize cPlace cSize w v (omega arith) refl
+
+  pub a-set-c : aOf (setCOf w v) ≡ aOf w
+  a-set-c = get-set-lower aPlace aSize cPlace cSize w v (omega arith) refl
+
+  pub b-set-c : bOf (setCOf w v) ≡ bOf w
+  b-set-c = get-set-higher bPlace bSize cPlace cSize w v (omega arith) (omega arith) refl
+
+  pub c-set-c : cOf (setCOf w v) ≡ v % cSize
+  c-set-c = get-set-same cPlace cSize w v (omega arith) (omega arith)
+
+  pub opcode-set-c : opcodeOf (setCOf w v) ≡ opcodeOf w
+  opcode-set-c = ap opCodeOf op-set-c
+
+  pub set-c-lt : w < 2 ^ 32 → setCOf w v < 2 ^ 32
+  set-c-lt = set-lt cPlace cSize (2 ^ 32 / (cPlace * cSize)) w v (omega arith) (omega arith)
+
+  pub op-set-bx : opOf (setBxOf w v) ≡ opOf w
+  op-set-bx = get-set-lower opPlace opSize bxPlace bxSize w v (omega arith) refl
+
+  pub a-set-bx : aOf (setBxOf w v) ≡ aOf w
+  a-set-bx = get-set-lower aPlace aSize bxPlace bxSize w v (omega arith) refl
+
+  pub bx-set-bx : bxOf (setBxOf w v) ≡ v % bxSize
+  bx-set-bx = get-set-same bxPlace bxSize w v (omega arith) (omega arith)
+
+  pub opcode-set-bx : opcodeOf (setBxOf w v) ≡ opcodeOf w
+  opcode-set-bx = ap opCodeOf op-set-bx
+
+  pub set-bx-lt : w < 2 ^ 32 → setBxOf w v < 2 ^ 32
+  set-bx-lt = set-lt bxPlace bxSize (2 ^ 32 / (bxPlace * bxSize)) w v (omega arith) (omega arith)
+
+-- Bx is B and C together
+pub bx-is : (w : ℕ) → bxOf w ≡ bOf w * cSize + cOf w
+unfolding getAt
+bx-is w = omega arith
+
+-- ---- the signed field
+
+pub excess-lt : (v : ℤ) → excess v < bxSize
+unfolding excess
+excess-lt (pos n) = mod-lt (n + maxArgSbx) (omega arith)
+excess-lt (negsuc n) = mod-lt (maxArgSbx - 1 + (bxSize - n % bxSize)) (omega arith)
+
+-- v is from -131,071 to 131,072
+abbrev pub InSbx : ℤ → Type 0
+InSbx (pos n) = n ≤ maxArgSbx + 1
+-- -(n + 1)
+InSbx (negsuc n) = n < maxArgSbx
+
+pub sbx-excess : (w : ℕ) (v : ℤ) → InSbx v → bxOf w ≡ excess v → sbxOf w ≡ v
+unfolding excess sbxOf
+sbx-excess w (pos n) h e = rw (le-ltb (bxOf w) maxArgSbx (omega arith)) (ap pos (omega arith))
+sbx-excess w (negsuc n) h e = rw (lt-ltb (bxOf w) maxArgSbx (omega arith)) (ap negsuc (omega arith))
+
+pub sbx-a-sbx : (op : OpCode) (a : ℕ) (v : ℤ) → InSbx v → sbxOf (aSbxOf op a v) ≡ v
+sbx-a-sbx op a v h = sbx-excess (aSbxOf op a v) v h (bx-a-bx op a (excess v) ∙ mod-eq-of-lt (excess-lt v))
+
+pub sbx-set-sbx : (w : ℕ) (v : ℤ) → InSbx v → sbxOf (setSbxOf w v) ≡ v
+sbx-set-sbx w v h = sbx-excess (setSbxOf w v) v h (bx-set-bx w (excess v) ∙ mod-eq-of-lt (excess-lt v))

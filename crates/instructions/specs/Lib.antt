@@ -1,0 +1,6 @@
+pub mod Limits
+pub mod Field
+pub mod OpCodes
+pub mod Word
+pub mod Laws
+pub mod Rows

@@ -1,0 +1,281 @@
+// Code words: opcode in bits 0-5, A in 6-13, C in 14-22, B in 23-31, Bx in 14-31; sBx is Bx less 131,071 (rilua's instructions.rs).
+ghost use mathlib.Core.Path.{_≡_};
+ghost use Prim.Native.Nat.{ℕ, _*_, _/_, _^_, _<_};
+ghost use Rattle.instructions.specs.Field.{getAt, setAt};
+ghost use Rattle.instructions.specs.OpCodes.{codeOf, opCodeOf, testMode};
+ghost use Rattle.instructions.specs.Word.{opOf, opcodeOf, aOf, bOf, cOf, bxOf, sbxOf, setAOf, setBOf, setCOf, excess as excessOf, setSbxOf, abcOf, aBxOf, aSbxOf};
+
+pub enum OpCode {
+    Move,
+    LoadK,
+    LoadBool,
+    LoadNil,
+    GetUpval,
+    GetGlobal,
+    GetTable,
+    SetGlobal,
+    SetUpval,
+    SetTable,
+    NewTable,
+    OpSelf,
+    Add,
+    Sub,
+    Mul,
+    Div,
+    Mod,
+    Pow,
+    Unm,
+    Not,
+    Len,
+    Concat,
+    Jmp,
+    Eq,
+    Lt,
+    Le,
+    Test,
+    TestSet,
+    Call,
+    TailCall,
+    Return,
+    ForLoop,
+    ForPrep,
+    TForLoop,
+    SetList,
+    Close,
+    Closure,
+    VarArg,
+}
+
+impl OpCode {
+    // The opcode's number, 0 to 37.
+    pub fn number(self) -> u32
+        ensures { λ r. ⌜ codeOf self ≡ r ⌝ }
+    {
+        match self {
+            OpCode::Move => 0,
+            OpCode::LoadK => 1,
+            OpCode::LoadBool => 2,
+            OpCode::LoadNil => 3,
+            OpCode::GetUpval => 4,
+            OpCode::GetGlobal => 5,
+            OpCode::GetTable => 6,
+            OpCode::SetGlobal => 7,
+            OpCode::SetUpval => 8,
+            OpCode::SetTable => 9,
+            OpCode::NewTable => 10,
+            OpCode::OpSelf => 11,
+            OpCode::Add => 12,
+            OpCode::Sub => 13,
+            OpCode::Mul => 14,
+            OpCode::Div => 15,
+            OpCode::Mod => 16,
+            OpCode::Pow => 17,
+            OpCode::Unm => 18,
+            OpCode::Not => 19,
+            OpCode::Len => 20,
+            OpCode::Concat => 21,
+            OpCode::Jmp => 22,
+            OpCode::Eq => 23,
+            OpCode::Lt => 24,
+            OpCode::Le => 25,
+            OpCode::Test => 26,
+            OpCode::TestSet => 27,
+            OpCode::Call => 28,
+            OpCode::TailCall => 29,
+            OpCode::Return => 30,
+            OpCode::ForLoop => 31,
+            OpCode::ForPrep => 32,
+            OpCode::TForLoop => 33,
+            OpCode::SetList => 34,
+            OpCode::Close => 35,
+            OpCode::Closure => 36,
+            OpCode::VarArg => 37,
+        }
+    }
+
+    // The opcode of a number; `Move` above 37.
+    pub fn from_u32(n: u32) -> OpCode
+        ensures { λ r. ⌜ opCodeOf n ≡ r ⌝ }
+    {
+        match n {
+            0 => OpCode::Move,
+            1 => OpCode::LoadK,
+            2 => OpCode::LoadBool,
+            3 => OpCode::LoadNil,
+            4 => OpCode::GetUpval,
+            5 => OpCode::GetGlobal,
+            6 => OpCode::GetTable,
+            7 => OpCode::SetGlobal,
+            8 => OpCode::SetUpval,
+            9 => OpCode::SetTable,
+            10 => OpCode::NewTable,
+            11 => OpCode::OpSelf,
+            12 => OpCode::Add,
+            13 => OpCode::Sub,
+            14 => OpCode::Mul,
+            15 => OpCode::Div,
+            16 => OpCode::Mod,
+            17 => OpCode::Pow,
+            18 => OpCode::Unm,
+            19 => OpCode::Not,
+            20 => OpCode::Len,
+            21 => OpCode::Concat,
+            22 => OpCode::Jmp,
+            23 => OpCode::Eq,
+            24 => OpCode::Lt,
+            25 => OpCode::Le,
+            26 => OpCode::Test,
+            27 => OpCode::TestSet,
+            28 => OpCode::Call,
+            29 => OpCode::TailCall,
+            30 => OpCode::Return,
+            31 => OpCode::ForLoop,
+            32 => OpCode::ForPrep,
+            33 => OpCode::TForLoop,
+            34 => OpCode::SetList,
+            35 => OpCode::Close,
+            36 => OpCode::Closure,
+            37 => OpCode::VarArg,
+            _ => OpCode::Move,
+        }
+    }
+
+    // Whether a jump stands behind it that it decides on: `Eq`, `Lt`, `Le`, `Test` and `TestSet`, 23 to 27.
+    pub fn is_test_mode(self) -> bool
+        ensures { λ r. ⌜ testMode self ≡ r ⌝ }
+    {
+        let n = self.number();
+        if n < 23 {
+            return false;
+        }
+        n < 28
+    }
+}
+
+// The field of `size` values at the place value `place`.
+fn field(x: u32, place: u32, size: u32) -> u32
+    requires { ⌜ (0 < place) × (0 < size) ⌝ }
+    ensures { λ r. ⌜ getAt place size x ≡ r ⌝ }
+{
+    x / place % size
+}
+
+// The number with that field set to `v`, of which only what fits the field counts.
+fn with_field(x: u32, place: u32, size: u32, v: u32) -> u32
+    requires { ⌜ (0 < place) × (0 < size) × (2 ^ 32 / (place * size) * size * place ≡ 2 ^ 32) ⌝ }
+    ensures { λ r. ⌜ setAt place size x v ≡ r ⌝ }
+{
+    (x / place / size * size + v % size) * place + x % place
+}
+
+// v + 131,071 modulo the field of Bx. 2 ^ 31, a multiple of it, is added too, so that no sum is negative.
+fn excess(v: i32) -> u32
+    ensures { λ r. ⌜ excessOf v ≡ r ⌝ }
+{
+    let n = (v as i64) + 2147614719;
+    ((n as u64) % 262144) as u32
+}
+
+pub struct Instruction {
+    pub raw: u32,
+}
+
+impl Instruction {
+    pub fn abc(op: OpCode, a: u32, b: u32, c: u32) -> Self
+        ensures { λ r. ⌜ abcOf op a b c ≡ r .raw ⌝ }
+    {
+        Self {
+            raw: op.number() + a % 256 * 64 + c % 512 * 16384 + b % 512 * 8388608,
+        }
+    }
+
+    pub fn a_bx(op: OpCode, a: u32, bx: u32) -> Self
+        ensures { λ r. ⌜ aBxOf op a bx ≡ r .raw ⌝ }
+    {
+        Self {
+            raw: op.number() + a % 256 * 64 + bx % 262144 * 16384,
+        }
+    }
+
+    pub fn a_sbx(op: OpCode, a: u32, sbx: i32) -> Self
+        ensures { λ r. ⌜ aSbxOf op a sbx ≡ r .raw ⌝ }
+    {
+        Self::a_bx(op, a, excess(sbx))
+    }
+
+    pub fn opcode(self) -> OpCode
+        ensures { λ r. ⌜ opcodeOf (self .raw) ≡ r ⌝ }
+    {
+        OpCode::from_u32(field(self.raw, 1, 64))
+    }
+
+    // The opcode field as a number, 0 to 63.
+    pub fn op(self) -> u32
+        ensures { λ r. ⌜ opOf (self .raw) ≡ r ⌝ }
+    {
+        field(self.raw, 1, 64)
+    }
+
+    pub fn a(self) -> u32
+        ensures { λ r. ⌜ aOf (self .raw) ≡ r ⌝ }
+    {
+        field(self.raw, 64, 256)
+    }
+
+    pub fn b(self) -> u32
+        ensures { λ r. ⌜ bOf (self .raw) ≡ r ⌝ }
+    {
+        field(self.raw, 8388608, 512)
+    }
+
+    pub fn c(self) -> u32
+        ensures { λ r. ⌜ cOf (self .raw) ≡ r ⌝ }
+    {
+        field(self.raw, 16384, 512)
+    }
+
+    pub fn bx(self) -> u32
+        ensures { λ r. ⌜ bxOf (self .raw) ≡ r ⌝ }
+    {
+        field(self.raw, 16384, 262144)
+    }
+
+    pub fn sbx(self) -> i32
+        ensures { λ r. ⌜ sbxOf (self .raw) ≡ r ⌝ }
+    {
+        let b = self.bx();
+        (b as i32) - 131071
+    }
+
+    pub fn set_a(self, a: u32) -> Self
+        ensures { λ r. ⌜ setAOf (self .raw) a ≡ r .raw ⌝ }
+    {
+        Self {
+            raw: with_field(self.raw, 64, 256, a),
+        }
+    }
+
+    pub fn set_b(self, b: u32) -> Self
+        ensures { λ r. ⌜ setBOf (self .raw) b ≡ r .raw ⌝ }
+    {
+        Self {
+            raw: with_field(self.raw, 8388608, 512, b),
+        }
+    }
+
+    pub fn set_c(self, c: u32) -> Self
+        ensures { λ r. ⌜ setCOf (self .raw) c ≡ r .raw ⌝ }
+    {
+        Self {
+            raw: with_field(self.raw, 16384, 512, c),
+        }
+    }
+
+    pub fn set_sbx(self, sbx: i32) -> Self
+        ensures { λ r. ⌜ setSbxOf (self .raw) sbx ≡ r .raw ⌝ }
+    {
+        Self {
+            raw: with_field(self.raw, 16384, 262144, excess(sbx)),
+        }
+    }
+}

@@ -1,0 +1,4 @@
+pub mod Operators
+pub mod Kinds
+pub mod Children
+pub mod Nodes
