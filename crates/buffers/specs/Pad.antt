@@ -1,4 +1,4 @@
--- What a lent buffer of n numbers holds: a list and then zeros (document 01: "exactly the result and then zeros"). Assumes nothing.
+-- What a lent buffer of n numbers holds: a list and then zeros. Assumes nothing.
 use Prim.Native.Nat.{ℕ, zero, suc, _-_, _<_, _≤_}
 use mathlib.Core.List.{List, [], _∷_, _++_, append-nil, append-assoc}
 use mathlib.Core.Path.{_≡_, refl, ap}

@@ -16,6 +16,10 @@ use Rattle.chunk.specs.declared.header.HeaderRead.the-variants as read
 use Rattle.chunk.specs.declared.header.Skipped.{Skipped}
 use Rattle.chunk.specs.declared.header.Skipped.the-variants as skip
 
+-- LUAI_MAXVARS: the most locals
+abbrev pub maxLocals : ℕ
+maxLocals = 200
+
 -- names in order and the place behind them, or that bytes of them are missing
 pub data Names : Type 0 where
   names : List Text → ℕ → Names
@@ -53,7 +57,7 @@ headerAt s =
     elim (eqb (m % 2) 0) [
       | true ↦ formulasAt s 0 1 (leb 2 m) 1
       | false ↦ withByte (byteAt s 1) (read.Refused refusal.Missing) λ n.
-          require (leb n 200) (read.Refused refusal.Locals) λ _.
+          require (leb n maxLocals) (read.Refused refusal.Locals) λ _.
           withSkipped (skipped (namesAt s n 2)) (read.Refused refusal.Missing) λ at.
           formulasAt s n 2 (leb 2 m) at
     ]

@@ -68,7 +68,7 @@ abbrev pub require : {A : Type 0} → Bool → A → (Unit {0} → A) → A
 require false r f = r
 require true r f = f tt
 
--- refusals 2, 3, 4 and 7 where a node would be
+-- refusals 2 and 4 where a node would be
 abbrev pub missing : NodeRead
 missing = read.Refused refusal.Missing
 

@@ -2,7 +2,6 @@ use Rattle.chunk.proofs.Forming.{as-many, form-long, form-header, form-
 use mathlib.Core.Path.{_∙_, sym, ap}
 use native.Mathlib.Omega.{arith}
 use Rattle.chunk.proofs.Insides.{header-in}
-use Rattle.chunk.proofs.Forming.{form-long, form-header, form-cut, form-trailing, form-done}
 use borrow.Author.Needs.{needs}
 use Rattle.chunk.proofs.form.check_form.Statement.{statement}
 use Rattle.chunk.proofs.form.check_form.Tie as tie

@@ -1,0 +1,259 @@
+// The constant table over lent kinds, values and pool: the search, and adding what is not there yet (rilua's value.rs, proto.rs and `add_constant`, `string_constant`, `nil_constant`).
+ghost use mathlib.Core.Path.{_≡_};
+ghost use mathlib.Core.List.{List};
+ghost use mathlib.Core.Bool.{_||_};
+ghost use Prim.Native.Nat.{ℕ, _+_, _*_, _%_, _≤_, _<_};
+ghost use lib.ListN.{length};
+ghost use lib.Seq.{sets};
+ghost use lib.Dec.{eqb, leb};
+ghost use Rattle.instructions.specs.Limits.{maxConstants};
+ghost use Rattle.constants.specs.Entry.{truth, part as partOf, sameBytes, holds};
+ghost use Rattle.constants.specs.Laws.{kindOf};
+ghost use Rattle.constants.specs.Table.{find as findIn, stored, storedText, append as appended, added, out};
+use refusals::Refusal;
+
+// A constant: nil, a truth value, a number (its double and its bits), or a text by its place in the chunk.
+pub enum Val {
+    Nil,
+    Truth(bool),
+    Number { value: f64, bits: u64 },
+    Text { start: usize, len: usize },
+}
+
+// How many entries the table has, and how many bytes of the pool they use.
+pub struct Table {
+    pub count: usize,
+    pub used: usize,
+}
+
+pub enum Found {
+    At(usize),
+    Nothing,
+}
+
+pub enum Added {
+    At(usize, Table),
+    Refused(Refusal),
+}
+
+// The part of a slice of `len` from `start`, as far as it goes.
+fn part(s: &[u8], start: usize, len: usize) -> &[u8]
+    ensures { λ r. ⌜ partOf (now (s .entry)) start len ≡ now r ⌝ }
+{
+    let n = s.len();
+    if n < start {
+        return &s[n..];
+    }
+    if n - start < len {
+        return &s[start..];
+    }
+    let end = start + len;
+    &s[start..end]
+}
+
+fn same_bytes(a: &[u8], b: &[u8]) -> bool
+    ensures { λ r. ⌜ sameBytes (now (a .entry)) (now (b .entry)) ≡ r ⌝ }
+{
+    if a.len() != b.len() {
+        return false;
+    }
+    let mut k = 0;
+    while k < a.len() {
+        if a[k] != b[k] {
+            return false;
+        }
+        k += 1;
+    }
+    true
+}
+
+// Numbers are told apart by their bits: 0.0 and -0.0 are two constants, and a NaN is itself.
+fn same_number(a: u64, b: u64) -> bool
+    ensures { λ r. ⌜ eqb a b ≡ r ⌝ }
+{
+    a == b
+}
+
+// The kind of a truth value's entry.
+fn truth_kind(b: bool) -> u8
+    ensures { λ r. ⌜ kindOf (truth b) ≡ r ⌝ }
+{
+    if b { 2 } else { 1 }
+}
+
+// Whether the entry of this kind and value is the constant v.
+fn is_entry(kind: u8, value: u64, pool: &[u8], chunk: &[u8], v: Val) -> bool
+    ensures { λ r. ⌜ holds (now (pool .entry)) (now (chunk .entry)) v kind value ≡ r ⌝ }
+{
+    match v {
+        Val::Nil => kind == 0,
+        Val::Truth(b) => kind == truth_kind(b),
+        Val::Number { value: _, bits } => {
+            if kind != 3 {
+                return false;
+            }
+            same_number(value, bits)
+        }
+        Val::Text { start, len } => {
+            if kind != 4 {
+                return false;
+            }
+            let at = (value / 65536) as usize;
+            let n = (value % 65536) as usize;
+            same_bytes(part(pool, at, n), part(chunk, start, len))
+        }
+    }
+}
+
+// The first of the first `count` entries that is the constant v. What stands at or above the count is never looked at.
+pub fn find(kinds: &[u8], values: &[u64], pool: &[u8], chunk: &[u8], count: usize, v: Val) -> Found
+    ensures { λ r. ⌜ findIn (holds (now (pool .entry)) (now (chunk .entry)) v) count (now (kinds .entry)) (now (values .entry)) ≡ r ⌝ }
+{
+    let mut i = 0;
+    while i < count {
+        if kinds.len() <= i {
+            return Found::Nothing;
+        }
+        if values.len() <= i {
+            return Found::Nothing;
+        }
+        if is_entry(kinds[i], values[i], pool, chunk, v) {
+            return Found::At(i);
+        }
+        i += 1;
+    }
+    Found::Nothing
+}
+
+// Stores the bytes of `from` in `to` from `at` on.
+fn copy(to: &mut [u8], at: usize, from: &[u8])
+    requires { ⌜ at + length (now from) ≤ length (now to) ⌝ }
+    ensures { λ _. ⌜ sets (now (to .entry)) at (now (from .entry)) ≡ now (to .exit) ⌝ }
+{
+    let mut done = 0;
+    while done < from.len() {
+        to[at + done] = from[done];
+        done += 1;
+    }
+}
+
+// Whether there is no entry behind the first `count`.
+fn full(kinds: usize, values: usize, count: usize) -> bool
+    ensures { λ r. ⌜ (leb kinds count || (leb values count || leb maxConstants count)) ≡ r ⌝ }
+{
+    if kinds <= count {
+        return true;
+    }
+    if values <= count {
+        return true;
+    }
+    262144 <= count
+}
+
+// Whether `n` bytes go behind the first `used` of `size`.
+fn fits(size: usize, used: usize, n: usize) -> bool
+    ensures { λ r. ⌜ leb (used + n) size ≡ r ⌝ }
+{
+    if size < used {
+        return false;
+    }
+    if size - used < n {
+        return false;
+    }
+    true
+}
+
+// The value of a text's entry.
+fn place(start: usize, len: usize) -> u64
+    ensures { λ r. ⌜ start % 281474976710656 * 65536 + len % 65536 ≡ r ⌝ }
+{
+    ((start % 281474976710656) as u64) * 65536 + (len % 65536) as u64
+}
+
+// A new entry of this kind and value behind the others, and of `n` bytes of the pool.
+fn store(
+    kinds: &mut [u8],
+    values: &mut [u64],
+    table: Table,
+    kind: u8,
+    value: u64,
+    n: usize,
+) -> Added
+    requires { ⌜ (table .count < length (now kinds)) × (table .count < length (now values)) × (table .used + n < 18446744073709551616) ⌝ }
+    ensures { λ r. ⌜ ((pool : List ℕ) → stored table kind value n (now (kinds .entry)) (now (values .entry)) pool ≡ out r (now (kinds .exit)) (now (values .exit)) pool) ⌝ }
+{
+    let count = table.count;
+    let used = table.used;
+    kinds[count] = kind;
+    values[count] = value;
+    Added::At(
+        count,
+        Table {
+            count: count + 1,
+            used: used + n,
+        },
+    )
+}
+
+// A text's entry, its bytes behind those in use: 12 where they don't fit the pool.
+fn store_text(
+    kinds: &mut [u8],
+    values: &mut [u64],
+    pool: &mut [u8],
+    table: Table,
+    text: &[u8],
+) -> Added
+    requires { ⌜ (table .count < length (now kinds)) × (table .count < length (now values)) ⌝ }
+    ensures { λ r. ⌜ storedText (leb (table .used + length (now (text .entry))) (length (now (pool .entry)))) table (now (text .entry)) (now (kinds .entry)) (now (values .entry)) (now (pool .entry)) ≡ out r (now (kinds .exit)) (now (values .exit)) (now (pool .exit)) ⌝ }
+{
+    let used = table.used;
+    let n = text.len();
+    if fits(pool.len(), used, n) {
+        copy(pool, used, text);
+        return store(kinds, values, table, 4, place(used, n), n);
+    }
+    Added::Refused(Refusal::Pool)
+}
+
+// The new entry of the constant v.
+fn append(
+    kinds: &mut [u8],
+    values: &mut [u64],
+    pool: &mut [u8],
+    chunk: &[u8],
+    table: Table,
+    v: Val,
+) -> Added
+    requires { ⌜ (table .count < length (now kinds)) × (table .count < length (now values)) ⌝ }
+    ensures { λ r. ⌜ appended (now (chunk .entry)) table v (now (kinds .entry)) (now (values .entry)) (now (pool .entry)) ≡ out r (now (kinds .exit)) (now (values .exit)) (now (pool .exit)) ⌝ }
+{
+    match v {
+        Val::Nil => store(kinds, values, table, 0, 0, 0),
+        Val::Truth(b) => store(kinds, values, table, truth_kind(b), 0, 0),
+        Val::Number { value: _, bits } => store(kinds, values, table, 3, bits, 0),
+        Val::Text { start, len } => store_text(kinds, values, pool, table, part(chunk, start, len)),
+    }
+}
+
+// The index of the constant v: that of its entry, or of a new one behind the others. 11 where no entry is free, else 12 where a text doesn't fit the pool.
+pub fn add_constant(
+    kinds: &mut [u8],
+    values: &mut [u64],
+    pool: &mut [u8],
+    chunk: &[u8],
+    table: Table,
+    v: Val,
+) -> Added
+    ensures { λ r. ⌜ added (now (chunk .entry)) table v (now (kinds .entry)) (now (values .entry)) (now (pool .entry)) ≡ out r (now (kinds .exit)) (now (values .exit)) (now (pool .exit)) ⌝ }
+{
+    let count = table.count;
+    match find(kinds, values, pool, chunk, count, v) {
+        Found::At(i) => Added::At(i, table),
+        Found::Nothing => {
+            if full(kinds.len(), values.len(), count) {
+                return Added::Refused(Refusal::Constants);
+            }
+            append(kinds, values, pool, chunk, table, v)
+        }
+    }
+}

@@ -1,0 +1,155 @@
+-- Worked examples, computed with the buffers that `weavelist` lends: P1 to P12 of document 01, and further chunks. Assumes nothing.
+use Prim.Native.Nat.{ℕ, zero, suc, _+_, _%_}
+use mathlib.Core.Path.{_≡_, refl}
+use mathlib.Core.List.{List, [], _∷_, map}
+use mathlib.Core.Bool.{true, false, not}
+use lib.ListN.{take}
+use Rattle.buffers.specs.Pad.{pad}
+use Rattle.instructions.specs.Field.{getAt, setAt}
+use Rattle.instructions.specs.OpCodes.{opCodeOf}
+use Rattle.instructions.specs.Word.{sbxOf, excess, abcOf, aBxOf}
+use Rattle.folding.specs.Floor.{floor}
+use Rattle.folding.specs.Folding.{foldOf}
+use Rattle.constants.specs.Entry.{entryOf, sameBytes, same, holds}
+use Rattle.constants.specs.Table.{find, append, added}
+use Rattle.cursor.specs.Fields.{hasBytes, byteAt, lineAt, bitsAt, textAt}
+use Rattle.nodes.specs.Kinds.{kindOf}
+use Rattle.nodes.specs.Nodes.{fieldsAt, nodeAt}
+use Rattle.nodes.specs.Operators.{binOpOf, unOpOf}
+use Rattle.chunk.specs.Ast.{spans, spansOf}
+use Rattle.chunk.specs.Form.{exprsAt, rest, exprAt, ended, formOf}
+use Rattle.chunk.specs.Headers.{namesAt, formulasAt, headerAt}
+use Rattle.model.specs.Conditions.{pop, invertjump, jumponcond, jump-if-false, jump-if-true, goiftrue, goiffalse, emit-not, negate, code-not}
+use Rattle.model.specs.Discharge.{discharge-kind, free-expr, load-kind, discharge2reg, discharge2anyreg, land, load-both, settle, join-jump, exp2reg, exp2nextreg, exp2anyreg, exp2val, small, near, rk-kind, exp2rk}
+use Rattle.model.specs.Emission.{discharge-jpc, push, emit-at, emit, concat, emit-jump, patch-to-here, get-label, code-label, load-nil, emit-nil, check-stack, reserve-regs, alloc-reg, free-reg, add-constant}
+use Rattle.model.specs.Expressions.{search-local, set-multret, emit-call, closed-call, last-argument, compile-funcargs, set-indexed, code-self, resolve-var, leaf-expr, after-one, between, after-two, callee, compile-head, compile-expr}
+use Rattle.model.specs.Jumps.{get-jump-target, patch-jump, last-jump, linked, get-jump-control, need-value, retest, patch-test-reg, remove-values, patch-list-aux}
+use Rattle.model.specs.Operators.{free-in-turn, free-both, emit-arith, code-arith, code-unary, code-concat, far-numeral, compare-operands, emit-comp, code-comp, operand, before-right, code-and, code-or, join-concat, after-right, code-unop}
+use Rattle.model.specs.Reading.{local-named, read-leaf, read-one, read-binary, read-two, read-many, read-formulas, read-expr, read-args}
+use Rattle.model.specs.Running.{regs, puts, joined, carry, run-from}
+use Rattle.model.specs.Steps.{andThen, Buffers}
+use Rattle.model.specs.Values.{compute, negation, nil, number, text}
+use lib.Ieee.{span, climb, size, odd, units, round, neg, sum, add, sub, mul, div, lt, eq, le, ne, ofInt, ofFields, ofBits, nanBits, toBits, isNan}
+use Rattle.model.specs.Lowering.{formulas, lower-chunk, lower-formed, lowered, Sizes, Out}
+use Rattle.refusals.specs.Number.{numberOf}
+use Rattle.model.specs.declared.Lowered.{Lowered}
+use Rattle.model.specs.declared.Lowered.the-variants as answer
+
+-- the buffers that `weavelist` lends
+abbrev weavelist : Sizes
+weavelist = record { code = 8192; lines = 8192; kinds = 2048; values = 2048; pool = 32768; scratch = 16384 }
+
+-- what is in use of code, lines, kinds and values, the bytes of text, and the frame; or the refusal's number
+data Summary : Type 0 where
+  words : List ℕ → List ℕ → List ℕ → List ℕ → ℕ → ℕ → Summary
+  refusal : ℕ → Summary
+
+abbrev of-answer : Lowered → Buffers → Summary
+of-answer (answer.Done c) m = words (take (c .words) (m .code)) (take (c .words) (m .lines)) (take (c .constants) (m .kinds)) (take (c .constants) (m .values)) (c .text) (c .frame)
+of-answer (answer.Refused k) m = refusal (numberOf k)
+
+abbrev summary : Out → Summary
+summary o = of-answer (o .answer) (o .buffers)
+
+found : List (List ℕ) → List Summary
+found [] = []
+found (c ∷ cs) = summary (lowered weavelist c) ∷ found cs
+
+-- ROWS
+
+record Row : Type 0 where
+  chunk : List ℕ
+  answer : Summary
+
+-- n times the formula nil, and then more
+nils : ℕ → List ℕ → List ℕ
+nils zero more = more
+nils (suc n) more = 0 ∷ 0 ∷ nils n more
+
+-- P1 to P12
+rows : List Row
+unfolding nils
+rows =
+    -- P1: 1 + x
+    record { chunk = (0 ∷ 1 ∷ 7 ∷ 8 ∷ 0 ∷ 3 ∷ 2 ∷ 0 ∷ 0 ∷ 0 ∷ 0 ∷ 0 ∷ 0 ∷ 240 ∷ 63 ∷ 6 ∷ 4 ∷ 1 ∷ 0 ∷ 120 ∷ []); answer = words (5 ∷ 2155872268 ∷ 16777246 ∷ []) (1 ∷ 1 ∷ 1 ∷ []) (4 ∷ 3 ∷ []) (1 ∷ 4607182418800017408 ∷ []) 1 2 } ∷
+    -- P2: nil: one word
+    record { chunk = (0 ∷ 1 ∷ 0 ∷ 0 ∷ []); answer = words (16777246 ∷ []) (1 ∷ []) ([]) ([]) 0 2 } ∷
+    -- P3: 250 nils: one word, B = 251
+    record { chunk = (0 ∷ 250 ∷ nils 250 []); answer = words (2105540638 ∷ []) (1 ∷ []) ([]) ([]) 0 250 } ∷
+    -- P4: 251 nils
+    record { chunk = (0 ∷ 251 ∷ nils 251 []); answer = refusal 10 } ∷
+    -- P5: ((1 or false) and true) or false: ten words
+    record { chunk = (0 ∷ 1 ∷ 7 ∷ 8 ∷ 14 ∷ 7 ∷ 8 ∷ 13 ∷ 7 ∷ 8 ∷ 14 ∷ 3 ∷ 2 ∷ 0 ∷ 0 ∷ 0 ∷ 0 ∷ 0 ∷ 0 ∷ 240 ∷ 63 ∷ 2 ∷ 0 ∷ 1 ∷ 0 ∷ 2 ∷ 0 ∷ []); answer = words (1 ∷ 16410 ∷ 2147549206 ∷ 2147483670 ∷ 2147516438 ∷ 2 ∷ 2147500054 ∷ 16386 ∷ 8388610 ∷ 16777246 ∷ []) (1 ∷ 1 ∷ 1 ∷ 1 ∷ 1 ∷ 1 ∷ 1 ∷ 1 ∷ 1 ∷ 1 ∷ []) (3 ∷ []) (4607182418800017408 ∷ []) 0 2 } ∷
+    -- P6: 1 / 0: Div 0 257 256
+    record { chunk = (0 ∷ 1 ∷ 7 ∷ 8 ∷ 3 ∷ 3 ∷ 2 ∷ 0 ∷ 0 ∷ 0 ∷ 0 ∷ 0 ∷ 0 ∷ 240 ∷ 63 ∷ 3 ∷ 2 ∷ 0 ∷ 0 ∷ 0 ∷ 0 ∷ 0 ∷ 0 ∷ 0 ∷ 0 ∷ []); answer = words (2160066575 ∷ 16777246 ∷ []) (1 ∷ 1 ∷ []) (3 ∷ 3 ∷ []) (0 ∷ 4607182418800017408 ∷ []) 0 2 } ∷
+    -- P7: 7 % -3 folds to -2
+    record { chunk = (0 ∷ 1 ∷ 7 ∷ 8 ∷ 4 ∷ 3 ∷ 2 ∷ 0 ∷ 0 ∷ 0 ∷ 0 ∷ 0 ∷ 0 ∷ 28 ∷ 64 ∷ 3 ∷ 2 ∷ 0 ∷ 0 ∷ 0 ∷ 0 ∷ 0 ∷ 0 ∷ 8 ∷ 192 ∷ []); answer = words (1 ∷ 16777246 ∷ []) (1 ∷ 1 ∷ []) (3 ∷ []) (13835058055282163712 ∷ []) 0 2 } ∷
+    -- P8: 5 % infinity isn't folded
+    record { chunk = (0 ∷ 1 ∷ 7 ∷ 8 ∷ 4 ∷ 3 ∷ 2 ∷ 0 ∷ 0 ∷ 0 ∷ 0 ∷ 0 ∷ 0 ∷ 20 ∷ 64 ∷ 3 ∷ 2 ∷ 0 ∷ 0 ∷ 0 ∷ 0 ∷ 0 ∷ 0 ∷ 240 ∷ 127 ∷ []); answer = words (2160066576 ∷ 16777246 ∷ []) (1 ∷ 1 ∷ []) (3 ∷ 3 ∷ []) (9218868437227405312 ∷ 4617315517961601024 ∷ []) 0 2 } ∷
+    -- P9: 0 and then -0: two constants
+    record { chunk = (0 ∷ 2 ∷ 3 ∷ 2 ∷ 0 ∷ 0 ∷ 0 ∷ 0 ∷ 0 ∷ 0 ∷ 0 ∷ 0 ∷ 3 ∷ 2 ∷ 0 ∷ 0 ∷ 0 ∷ 0 ∷ 0 ∷ 0 ∷ 0 ∷ 128 ∷ []); answer = words (1 ∷ 16449 ∷ 25165854 ∷ []) (1 ∷ 1 ∷ 1 ∷ []) (3 ∷ 3 ∷ []) (0 ∷ 9223372036854775808 ∷ []) 0 2 } ∷
+    -- P10: a .. b .. c: Concat 0 0 2, five words
+    record { chunk = (0 ∷ 1 ∷ 7 ∷ 8 ∷ 6 ∷ 6 ∷ 4 ∷ 1 ∷ 0 ∷ 97 ∷ 7 ∷ 8 ∷ 6 ∷ 6 ∷ 4 ∷ 1 ∷ 0 ∷ 98 ∷ 6 ∷ 4 ∷ 1 ∷ 0 ∷ 99 ∷ []); answer = words (5 ∷ 16453 ∷ 32901 ∷ 32789 ∷ 16777246 ∷ []) (1 ∷ 1 ∷ 1 ∷ 1 ∷ 1 ∷ []) (4 ∷ 4 ∷ 4 ∷ []) (1 ∷ 65537 ∷ 131073 ∷ []) 3 3 } ∷
+    -- P11: 249 nils, then f(...)
+    record { chunk = (2 ∷ 250 ∷ nils 249 (12 ∷ 16 ∷ 1 ∷ 6 ∷ 4 ∷ 1 ∷ 0 ∷ 102 ∷ 5 ∷ 0 ∷ [])); answer = refusal 10 } ∷
+    -- P12: 248 nils, then f(...)
+    record { chunk = (2 ∷ 249 ∷ nils 248 (12 ∷ 16 ∷ 1 ∷ 6 ∷ 4 ∷ 1 ∷ 0 ∷ 102 ∷ 5 ∷ 0 ∷ [])); answer = words (15877 ∷ 15973 ∷ 48668 ∷ 2097152030 ∷ []) (1 ∷ 1 ∷ 1 ∷ 1 ∷ []) (4 ∷ []) (1 ∷ []) 1 250 } ∷
+    []
+
+p-rows : found (map (λ r. r .chunk) rows) ≡ map (λ r. r .answer) rows
+unfolding pad getAt setAt opCodeOf sbxOf excess abcOf aBxOf floor foldOf entryOf sameBytes same holds find append added hasBytes byteAt lineAt bitsAt textAt kindOf fieldsAt nodeAt binOpOf unOpOf spans spansOf exprsAt rest exprAt ended formOf namesAt formulasAt headerAt pop invertjump jumponcond jump-if-false jump-if-true goiftrue goiffalse emit-not negate code-not discharge-kind free-expr load-kind discharge2reg discharge2anyreg land load-both settle join-jump exp2reg exp2nextreg exp2anyreg exp2val small near rk-kind exp2rk discharge-jpc push emit-at emit concat emit-jump patch-to-here get-label code-label load-nil emit-nil check-stack reserve-regs alloc-reg free-reg add-constant search-local set-multret emit-call closed-call last-argument compile-funcargs set-indexed code-self resolve-var leaf-expr after-one between after-two callee compile-head compile-expr get-jump-target patch-jump last-jump linked get-jump-control need-value retest patch-test-reg remove-values patch-list-aux formulas lower-chunk lower-formed lowered free-in-turn free-both emit-arith code-arith code-unary code-concat far-numeral compare-operands emit-comp code-comp operand before-right code-and code-or join-concat after-right code-unop local-named read-leaf read-one read-binary read-two read-many read-formulas read-expr read-args regs puts joined carry run-from andThen compute negation span climb size odd units round neg sum add sub mul div lt eq le ne ofInt ofFields ofBits nanBits toBits isNan found rows nils
+p-rows = refl
+
+-- further chunks, which catch faults that P1 to P12 let pass
+more-rows : List Row
+more-rows =
+    -- self-test: f() or 1: the register tested is the target, so `Test`
+    record { chunk = (0 ∷ 1 ∷ 7 ∷ 8 ∷ 14 ∷ 12 ∷ 16 ∷ 0 ∷ 6 ∷ 4 ∷ 1 ∷ 0 ∷ 102 ∷ 3 ∷ 2 ∷ 0 ∷ 0 ∷ 0 ∷ 0 ∷ 0 ∷ 0 ∷ 240 ∷ 63 ∷ []); answer = words (5 ∷ 8421404 ∷ 16410 ∷ 2147483670 ∷ 16385 ∷ 16777246 ∷ []) (1 ∷ 1 ∷ 1 ∷ 1 ∷ 1 ∷ 1 ∷ []) (4 ∷ 3 ∷ []) (1 ∷ 4607182418800017408 ∷ []) 1 2 } ∷
+    -- popped-not: not a and b, over two lines: the `Not` gives its word and its line back
+    record { chunk = (0 ∷ 1 ∷ 7 ∷ 9 ∷ 4 ∷ 0 ∷ 0 ∷ 0 ∷ 13 ∷ 8 ∷ 9 ∷ 2 ∷ 0 ∷ 0 ∷ 0 ∷ 1 ∷ 6 ∷ 5 ∷ 1 ∷ 0 ∷ 0 ∷ 0 ∷ 1 ∷ 0 ∷ 97 ∷ 6 ∷ 5 ∷ 3 ∷ 0 ∷ 0 ∷ 0 ∷ 1 ∷ 0 ∷ 98 ∷ []); answer = words (5 ∷ 16410 ∷ 2147500054 ∷ 16389 ∷ 2147500054 ∷ 16386 ∷ 8388610 ∷ 16777246 ∷ []) (1 ∷ 1 ∷ 1 ∷ 3 ∷ 3 ∷ 3 ∷ 3 ∷ 3 ∷ []) (4 ∷ 4 ∷ []) (1 ∷ 65537 ∷ []) 2 2 } ∷
+    -- power: 2 ^ 3 isn't folded (difference 3)
+    record { chunk = (0 ∷ 1 ∷ 7 ∷ 8 ∷ 5 ∷ 3 ∷ 2 ∷ 0 ∷ 0 ∷ 0 ∷ 0 ∷ 0 ∷ 0 ∷ 0 ∷ 64 ∷ 3 ∷ 2 ∷ 0 ∷ 0 ∷ 0 ∷ 0 ∷ 0 ∷ 0 ∷ 8 ∷ 64 ∷ []); answer = words (2160066577 ∷ 16777246 ∷ []) (1 ∷ 1 ∷ []) (3 ∷ 3 ∷ []) (4613937818241073152 ∷ 4611686018427387904 ∷ []) 0 2 } ∷
+    -- nan: a negated NaN numeral: `Unm` has a register (difference 6)
+    record { chunk = (0 ∷ 1 ∷ 8 ∷ 8 ∷ 0 ∷ 3 ∷ 2 ∷ 1 ∷ 0 ∷ 0 ∷ 0 ∷ 0 ∷ 0 ∷ 248 ∷ 127 ∷ []); answer = words (1 ∷ 18 ∷ 16777246 ∷ []) (1 ∷ 1 ∷ 1 ∷ []) (3 ∷ []) (9221120237041090561 ∷ []) 0 2 } ∷
+    []
+
+-- chunks with short buffers: a refusal is given on the spot (difference 4)
+record Sized : Type 0 where
+  sizes : Sizes
+  chunk : List ℕ
+  number : ℕ
+
+sized : List Sized
+unfolding nils
+sized =
+    -- no-constant: 1 with no room for a constant: 11
+    record { sizes = record { code = 64; lines = 64; kinds = 0; values = 8; pool = 8; scratch = 512 }; chunk = (0 ∷ 1 ∷ 3 ∷ 2 ∷ 0 ∷ 0 ∷ 0 ∷ 0 ∷ 0 ∷ 0 ∷ 240 ∷ 63 ∷ []); number = 11 } ∷
+    -- short-values: 1 with a shorter values buffer: 11
+    record { sizes = record { code = 64; lines = 64; kinds = 8; values = 0; pool = 8; scratch = 512 }; chunk = (0 ∷ 1 ∷ 3 ∷ 2 ∷ 0 ∷ 0 ∷ 0 ∷ 0 ∷ 0 ∷ 0 ∷ 240 ∷ 63 ∷ []); number = 11 } ∷
+    -- no-register: 250 nils, then ((1 < 2) and 3) == 4 with room for two constants: 10, and not the 11 that 3 would get
+    record { sizes = record { code = 64; lines = 64; kinds = 2; values = 8; pool = 8; scratch = 512 }; chunk = (0 ∷ 251 ∷ nils 250 (7 ∷ 8 ∷ 11 ∷ 7 ∷ 8 ∷ 13 ∷ 7 ∷ 8 ∷ 7 ∷ 3 ∷ 2 ∷ 0 ∷ 0 ∷ 0 ∷ 0 ∷ 0 ∷ 0 ∷ 240 ∷ 63 ∷ 3 ∷ 2 ∷ 0 ∷ 0 ∷ 0 ∷ 0 ∷ 0 ∷ 0 ∷ 0 ∷ 64 ∷ 3 ∷ 2 ∷ 0 ∷ 0 ∷ 0 ∷ 0 ∷ 0 ∷ 0 ∷ 8 ∷ 64 ∷ 3 ∷ 2 ∷ 0 ∷ 0 ∷ 0 ∷ 0 ∷ 0 ∷ 0 ∷ 16 ∷ 64 ∷ [])); number = 10 } ∷
+    -- eleven-first: x with neither an entry nor text bytes: 11 before 12
+    record { sizes = record { code = 64; lines = 64; kinds = 0; values = 8; pool = 0; scratch = 512 }; chunk = (0 ∷ 1 ∷ 6 ∷ 4 ∷ 1 ∷ 0 ∷ 120 ∷ []); number = 11 } ∷
+    -- no-text: x with no text bytes: 12
+    record { sizes = record { code = 64; lines = 64; kinds = 8; values = 8; pool = 0; scratch = 512 }; chunk = (0 ∷ 1 ∷ 6 ∷ 4 ∷ 1 ∷ 0 ∷ 120 ∷ []); number = 12 } ∷
+    -- no-word: x with one word and two lines: 13
+    record { sizes = record { code = 1; lines = 2; kinds = 8; values = 8; pool = 8; scratch = 512 }; chunk = (0 ∷ 1 ∷ 6 ∷ 4 ∷ 1 ∷ 0 ∷ 120 ∷ []); number = 13 } ∷
+    -- no-line: x with two words and one line: 13
+    record { sizes = record { code = 2; lines = 1; kinds = 8; values = 8; pool = 8; scratch = 512 }; chunk = (0 ∷ 1 ∷ 6 ∷ 4 ∷ 1 ∷ 0 ∷ 120 ∷ []); number = 13 } ∷
+    -- enough: x with two words, one constant and one byte: accepted
+    record { sizes = record { code = 2; lines = 2; kinds = 1; values = 1; pool = 1; scratch = 1 }; chunk = (0 ∷ 1 ∷ 6 ∷ 4 ∷ 1 ∷ 0 ∷ 120 ∷ []); number = 0 } ∷
+    -- scratch: -x, with a scratch of one: 9 before 11
+    record { sizes = record { code = 64; lines = 64; kinds = 0; values = 8; pool = 8; scratch = 1 }; chunk = (0 ∷ 1 ∷ 8 ∷ 8 ∷ 0 ∷ 6 ∷ 4 ∷ 1 ∷ 0 ∷ 120 ∷ []); number = 9 } ∷
+    []
+
+numbered : Summary → ℕ
+numbered (refusal n) = n
+numbered (words c l k v t f) = 0
+
+sized-found : map (λ r. numbered (summary (lowered (r .sizes) (r .chunk)))) sized ≡ map (λ r. r .number) sized
+unfolding pad getAt setAt opCodeOf sbxOf excess abcOf aBxOf floor foldOf entryOf sameBytes same holds find append added hasBytes byteAt lineAt bitsAt textAt kindOf fieldsAt nodeAt binOpOf unOpOf spans spansOf exprsAt rest exprAt ended formOf namesAt formulasAt headerAt pop invertjump jumponcond jump-if-false jump-if-true goiftrue goiffalse emit-not negate code-not discharge-kind free-expr load-kind discharge2reg discharge2anyreg land load-both settle join-jump exp2reg exp2nextreg exp2anyreg exp2val small near rk-kind exp2rk discharge-jpc push emit-at emit concat emit-jump patch-to-here get-label code-label load-nil emit-nil check-stack reserve-regs alloc-reg free-reg add-constant search-local set-multret emit-call closed-call last-argument compile-funcargs set-indexed code-self resolve-var leaf-expr after-one between after-two callee compile-head compile-expr get-jump-target patch-jump last-jump linked get-jump-control need-value retest patch-test-reg remove-values patch-list-aux formulas lower-chunk lower-formed lowered free-in-turn free-both emit-arith code-arith code-unary code-concat far-numeral compare-operands emit-comp code-comp operand before-right code-and code-or join-concat after-right code-unop local-named read-leaf read-one read-binary read-two read-many read-formulas read-expr read-args regs puts joined carry run-from andThen compute negation span climb size odd units round neg sum add sub mul div lt eq le ne ofInt ofFields ofBits nanBits toBits isNan sized nils numbered
+sized-found = refl
+
+more-found : found (map (λ r. r .chunk) more-rows) ≡ map (λ r. r .answer) more-rows
+unfolding pad getAt setAt opCodeOf sbxOf excess abcOf aBxOf floor foldOf entryOf sameBytes same holds find append added hasBytes byteAt lineAt bitsAt textAt kindOf fieldsAt nodeAt binOpOf unOpOf spans spansOf exprsAt rest exprAt ended formOf namesAt formulasAt headerAt pop invertjump jumponcond jump-if-false jump-if-true goiftrue goiffalse emit-not negate code-not discharge-kind free-expr load-kind discharge2reg discharge2anyreg land load-both settle join-jump exp2reg exp2nextreg exp2anyreg exp2val small near rk-kind exp2rk discharge-jpc push emit-at emit concat emit-jump patch-to-here get-label code-label load-nil emit-nil check-stack reserve-regs alloc-reg free-reg add-constant search-local set-multret emit-call closed-call last-argument compile-funcargs set-indexed code-self resolve-var leaf-expr after-one between after-two callee compile-head compile-expr get-jump-target patch-jump last-jump linked get-jump-control need-value retest patch-test-reg remove-values patch-list-aux formulas lower-chunk lower-formed lowered free-in-turn free-both emit-arith code-arith code-unary code-concat far-numeral compare-operands emit-comp code-comp operand before-right code-and code-or join-concat after-right code-unop local-named read-leaf read-one read-binary read-two read-many read-formulas read-expr read-args regs puts joined carry run-from andThen compute negation span climb size odd units round neg sum add sub mul div lt eq le ne ofInt ofFields ofBits nanBits toBits isNan found more-rows
+more-found = refl
