@@ -1,4 +1,4 @@
--- Reading the formulas by the manual (document 01, "The reading"). Its only state is the steps taken. Assumes nothing.
+-- Reading the formulas by the manual, section 2.5 and those named below (document 01, "The reading"). Its only state is the steps taken. Assumes nothing.
 use Prim.Native.Nat.{ℕ}
 use mathlib.Core.List.{List, [], _∷_}
 use mathlib.Core.Bool.{Bool, true, false, not}
@@ -32,7 +32,7 @@ abbrev pub _>>=_ : {A B : Type 0} → Read A → (A → Read B) → Read B
 abbrev pub return : {A : Type 0} → A → Read A
 return a h = taken a h
 
--- one value of a reading: the first, or nil
+-- one value of a reading: the first, or nil (2.5: an expression adjusted to one result)
 abbrev pub single : Read (List Value) → Read Value
 single x = do
   vs ← x
@@ -44,7 +44,7 @@ only x = do
   v ← x
   return (v ∷ [])
 
--- the value of the last local so named
+-- the value of the last local so named (2.6)
 unfoldable pub local-named : List ℕ → List ℕ → List Text → List Value → Option Value
 local-named chunk name [] vs = none
 local-named chunk name (t ∷ ts) [] = none
@@ -65,7 +65,7 @@ module _ (w : World) (chunk : List ℕ) (names : List Text) (locals varargs : Li
   read-leaf leaf.VarArg = return varargs
   read-leaf (leaf.Name t) = only (local-or-global t (local-named chunk (bytesOf chunk t) names locals))
 
-  -- an operator, field or parentheses on one value
+  -- an operator (2.5.1, 2.5.3, 2.5.5), field (2.3) or parentheses (2.5) on one value
   unfoldable pub read-one : One → Value → Read Value
   read-one (one.Unary un.Neg) v = negation w v
   read-one (one.Unary un.Not) v = return (truth (not (is-true v)))
@@ -73,19 +73,20 @@ module _ (w : World) (chunk : List ℕ) (names : List Text) (locals varargs : Li
   read-one (one.Field t) v = ask w index-read (v ∷ text (bytesOf chunk t) ∷ [])
   read-one one.Paren v = return v
 
-  -- a comparison's answer as a value
+  -- a comparison's answer as a value (2.5.2)
   abbrev pub compare : Kind → Value → Value → Read Value
   compare k a b = do
     t ← ask-truth w k (a ∷ b ∷ [])
     return (truth t)
 
-  -- both operands, left to right, then the operation
+  -- both operands, left to right as document 01 asks, then the operation (2.5.1, 2.5.2, 2.5.4)
   abbrev pub both : Read Value → Read Value → (Value → Value → Read Value) → Read Value
   both x y f = do
     a ← x
     b ← y
     f a b
 
+  -- `and` and `or` read the right operand only if they need it (2.5.3)
   unfoldable pub read-binary : BinOp → Read Value → Read Value → Read Value
   read-binary bin.And x y = do
     a ← x
@@ -114,7 +115,7 @@ module _ (w : World) (chunk : List ℕ) (names : List Text) (locals varargs : Li
   read-two (two.Binary o) x y = read-binary o x y
   read-two two.Index x y = both x y λ a b. ask w index-read (a ∷ b ∷ [])
 
-  -- the function or object, then the arguments, then the call; a method's object stands before the arguments
+  -- the function or object, then the arguments, then the call (2.5.8); a method's object stands before the arguments
   unfoldable pub read-many : Many → Read Value → Read (List Value) → Read (List Value)
   read-many many.Call x args = do
     f ← x
@@ -126,7 +127,7 @@ module _ (w : World) (chunk : List ℕ) (names : List Text) (locals varargs : Li
     vs ← args
     ask-many w (f ∷ o ∷ vs)
 
-  -- all values of an expression; of arguments one each, and all of the last
+  -- all values of an expression; of arguments one each, and all of the last (2.5, 2.5.8)
   unfoldable mutual
     pub read-expr : Expr → Read (List Value)
     read-expr (leaf-node s l) = read-leaf l

@@ -40,7 +40,7 @@ abbrev weavelist : Sizes
 weavelist = record { code = 8192; lines = 8192; kinds = 2048; values = 2048; pool = 32768; scratch = 16384 }
 
 -- what is in use of code, lines, kinds and values, the bytes of text, and the frame; or the refusal's number
-data Summary : Type 0 where
+pub data Summary : Type 0 where
   words : List ℕ → List ℕ → List ℕ → List ℕ → ℕ → ℕ → Summary
   refusal : ℕ → Summary
 
@@ -57,17 +57,17 @@ found (c ∷ cs) = summary (lowered weavelist c) ∷ found cs
 
 -- ROWS
 
-record Row : Type 0 where
-  chunk : List ℕ
-  answer : Summary
+pub record Row : Type 0 where
+  pub chunk : List ℕ
+  pub answer : Summary
 
 -- n times the formula nil, and then more
-nils : ℕ → List ℕ → List ℕ
+unfoldable pub nils : ℕ → List ℕ → List ℕ
 nils zero more = more
 nils (suc n) more = 0 ∷ 0 ∷ nils n more
 
 -- P1 to P12
-rows : List Row
+unfoldable pub rows : List Row
 unfolding nils
 rows =
     -- P1: 1 + x

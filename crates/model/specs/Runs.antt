@@ -32,6 +32,7 @@ use Rattle.model.specs.Steps.{andThen, Buffers, Result, done, refused}
 use Rattle.model.specs.Values.{compute, negation, Value, nil, truth, number, text, other, Kind, global-read, index-read, call, equal, less, less-or-equal, length-of, concatenation, arithmetic, Outward, World}
 use lib.Ieee.{span, climb, size, odd, units, round, neg, sum, add, sub, mul, div, lt, eq, le, ne, ofInt, ofFields, ofBits, nanBits, toBits, isNan}
 use Rattle.model.specs.Lowering.{formulas, lower-chunk, lower-formed, lowered, start}
+use Rattle.model.specs.Rows.{Summary, words, refusal, Row, rows, nils}
 use Rattle.chunk.specs.declared.header.HeaderRead.{HeaderRead}
 use Rattle.chunk.specs.declared.header.HeaderRead.the-variants as header
 use Rattle.model.specs.declared.State.{State}
@@ -151,10 +152,17 @@ each : {A B C : Type 0} → (A → B → C) → List A → List B → List (List
 each f [] bs = []
 each f (a ∷ as₁) bs = map (f a) bs ∷ each f as₁ bs
 
+-- the rows of P1 to P12 that are accepted
+abbrev accepted : Summary → List ℕ → List Case → List Case
+accepted (refusal n) c cs = cs
+accepted (words w l k v t f) c cs = record { chunk = c; before = 0; locals = 0 } ∷ cs
+
+of-rows : List Row → List Case
+of-rows [] = []
+of-rows (r ∷ rs) = accepted (r .answer) (r .chunk) (of-rows rs)
+
 cases : List Case
 cases =
-    record { chunk = (0 ∷ 1 ∷ 7 ∷ 8 ∷ 0 ∷ 3 ∷ 2 ∷ 0 ∷ 0 ∷ 0 ∷ 0 ∷ 0 ∷ 0 ∷ 240 ∷ 63 ∷ 6 ∷ 4 ∷ 1 ∷ 0 ∷ 120 ∷ []); before = 0; locals = 0 } ∷
-    record { chunk = (0 ∷ 1 ∷ 7 ∷ 8 ∷ 14 ∷ 7 ∷ 8 ∷ 13 ∷ 7 ∷ 8 ∷ 14 ∷ 3 ∷ 2 ∷ 0 ∷ 0 ∷ 0 ∷ 0 ∷ 0 ∷ 0 ∷ 240 ∷ 63 ∷ 2 ∷ 0 ∷ 1 ∷ 0 ∷ 2 ∷ 0 ∷ []); before = 0; locals = 0 } ∷
     -- not-and: not (a and b): no `TestSet` is left by `not`
     record { chunk = (0 ∷ 1 ∷ 8 ∷ 8 ∷ 1 ∷ 7 ∷ 8 ∷ 13 ∷ 6 ∷ 4 ∷ 1 ∷ 0 ∷ 97 ∷ 6 ∷ 4 ∷ 1 ∷ 0 ∷ 98 ∷ []); before = 0; locals = 0 } ∷
     -- label: (a .. b) and nil, nil: a label keeps the second nil apart
@@ -185,6 +193,10 @@ cases =
     record { chunk = (0 ∷ 1 ∷ 7 ∷ 8 ∷ 13 ∷ 7 ∷ 8 ∷ 14 ∷ 7 ∷ 8 ∷ 13 ∷ 7 ∷ 8 ∷ 7 ∷ 6 ∷ 4 ∷ 1 ∷ 0 ∷ 97 ∷ 6 ∷ 4 ∷ 1 ∷ 0 ∷ 98 ∷ 7 ∷ 8 ∷ 7 ∷ 6 ∷ 4 ∷ 1 ∷ 0 ∷ 98 ∷ 6 ∷ 4 ∷ 1 ∷ 0 ∷ 99 ∷ 8 ∷ 8 ∷ 1 ∷ 7 ∷ 8 ∷ 11 ∷ 6 ∷ 4 ∷ 1 ∷ 0 ∷ 99 ∷ 6 ∷ 4 ∷ 1 ∷ 0 ∷ 97 ∷ 7 ∷ 8 ∷ 14 ∷ 7 ∷ 8 ∷ 12 ∷ 6 ∷ 4 ∷ 1 ∷ 0 ∷ 97 ∷ 3 ∷ 2 ∷ 0 ∷ 0 ∷ 0 ∷ 0 ∷ 0 ∷ 0 ∷ 240 ∷ 63 ∷ 6 ∷ 4 ∷ 1 ∷ 0 ∷ 120 ∷ []); before = 0; locals = 0 } ∷
     []
 
+p-runs-are-readings : each ran worlds (of-rows rows) ≡ each read worlds (of-rows rows)
+unfolding pad getAt setAt opCodeOf sbxOf excess abcOf aBxOf floor foldOf entryOf sameBytes same holds find append added hasBytes byteAt lineAt bitsAt textAt kindOf fieldsAt nodeAt binOpOf unOpOf spans spansOf exprsAt rest exprAt ended formOf namesAt formulasAt headerAt pop invertjump jumponcond jump-if-false jump-if-true goiftrue goiffalse emit-not negate code-not discharge-kind free-expr load-kind discharge2reg discharge2anyreg land load-both settle join-jump exp2reg exp2nextreg exp2anyreg exp2val small near rk-kind exp2rk discharge-jpc push emit-at emit concat emit-jump patch-to-here get-label code-label load-nil emit-nil check-stack reserve-regs alloc-reg free-reg add-constant search-local set-multret emit-call closed-call last-argument compile-funcargs set-indexed code-self resolve-var leaf-expr after-one between after-two callee compile-head compile-expr get-jump-target patch-jump last-jump linked get-jump-control need-value retest patch-test-reg remove-values patch-list-aux formulas lower-chunk lower-formed lowered free-in-turn free-both emit-arith code-arith code-unary code-concat far-numeral compare-operands emit-comp code-comp operand before-right code-and code-or join-concat after-right code-unop local-named read-leaf read-one read-binary read-two read-many read-formulas read-expr read-args regs puts joined carry run-from andThen compute negation span climb size odd units round neg sum add sub mul div lt eq le ne ofInt ofFields ofBits nanBits toBits isNan ran read numbers some-values weigh weigh-all sort digest varied several by-content calls-in-turn alternating worlds each of-rows rows nils
+p-runs-are-readings = refl
+
 runs-are-readings : each ran worlds cases ≡ each read worlds cases
-unfolding pad getAt setAt opCodeOf sbxOf excess abcOf aBxOf floor foldOf entryOf sameBytes same holds find append added hasBytes byteAt lineAt bitsAt textAt kindOf fieldsAt nodeAt binOpOf unOpOf spans spansOf exprsAt rest exprAt ended formOf namesAt formulasAt headerAt pop invertjump jumponcond jump-if-false jump-if-true goiftrue goiffalse emit-not negate code-not discharge-kind free-expr load-kind discharge2reg discharge2anyreg land load-both settle join-jump exp2reg exp2nextreg exp2anyreg exp2val small near rk-kind exp2rk discharge-jpc push emit-at emit concat emit-jump patch-to-here get-label code-label load-nil emit-nil check-stack reserve-regs alloc-reg free-reg add-constant search-local set-multret emit-call closed-call last-argument compile-funcargs set-indexed code-self resolve-var leaf-expr after-one between after-two callee compile-head compile-expr get-jump-target patch-jump last-jump linked get-jump-control need-value retest patch-test-reg remove-values patch-list-aux formulas lower-chunk lower-formed lowered free-in-turn free-both emit-arith code-arith code-unary code-concat far-numeral compare-operands emit-comp code-comp operand before-right code-and code-or join-concat after-right code-unop local-named read-leaf read-one read-binary read-two read-many read-formulas read-expr read-args regs puts joined carry run-from andThen compute negation span climb size odd units round neg sum add sub mul div lt eq le ne ofInt ofFields ofBits nanBits toBits isNan ran read filled numbers some-values weigh weigh-all sort digest varied several by-content calls-in-turn alternating worlds each cases
+unfolding pad getAt setAt opCodeOf sbxOf excess abcOf aBxOf floor foldOf entryOf sameBytes same holds find append added hasBytes byteAt lineAt bitsAt textAt kindOf fieldsAt nodeAt binOpOf unOpOf spans spansOf exprsAt rest exprAt ended formOf namesAt formulasAt headerAt pop invertjump jumponcond jump-if-false jump-if-true goiftrue goiffalse emit-not negate code-not discharge-kind free-expr load-kind discharge2reg discharge2anyreg land load-both settle join-jump exp2reg exp2nextreg exp2anyreg exp2val small near rk-kind exp2rk discharge-jpc push emit-at emit concat emit-jump patch-to-here get-label code-label load-nil emit-nil check-stack reserve-regs alloc-reg free-reg add-constant search-local set-multret emit-call closed-call last-argument compile-funcargs set-indexed code-self resolve-var leaf-expr after-one between after-two callee compile-head compile-expr get-jump-target patch-jump last-jump linked get-jump-control need-value retest patch-test-reg remove-values patch-list-aux formulas lower-chunk lower-formed lowered free-in-turn free-both emit-arith code-arith code-unary code-concat far-numeral compare-operands emit-comp code-comp operand before-right code-and code-or join-concat after-right code-unop local-named read-leaf read-one read-binary read-two read-many read-formulas read-expr read-args regs puts joined carry run-from andThen compute negation span climb size odd units round neg sum add sub mul div lt eq le ne ofInt ofFields ofBits nanBits toBits isNan ran read numbers some-values weigh weigh-all sort digest varied several by-content calls-in-turn alternating worlds each cases
 runs-are-readings = refl

@@ -36,7 +36,7 @@ valueOf (ktruth b) = truth b
 valueOf (knumber b) = number b
 valueOf (ktext t) = text t
 
--- only nil and false are false
+-- only nil and false are false (manual 2.4.4)
 abbrev pub is-true : Value → Bool
 is-true nil = false
 is-true (truth b) = b
