@@ -37,7 +37,7 @@ pub enum Added {
 }
 
 // The part of a slice of `len` from `start`, as far as it goes.
-fn part(s: &[u8], start: usize, len: usize) -> &[u8]
+pub fn part(s: &[u8], start: usize, len: usize) -> &[u8]
     ensures { λ r. ⌜ partOf (now (s .entry)) start len ≡ now r ⌝ }
 {
     let n = s.len();
@@ -51,7 +51,7 @@ fn part(s: &[u8], start: usize, len: usize) -> &[u8]
     &s[start..end]
 }
 
-fn same_bytes(a: &[u8], b: &[u8]) -> bool
+pub fn same_bytes(a: &[u8], b: &[u8]) -> bool
     ensures { λ r. ⌜ sameBytes (now (a .entry)) (now (b .entry)) ≡ r ⌝ }
 {
     if a.len() != b.len() {

@@ -1,0 +1,58 @@
+// Names of locals: rilua's `search_local`.
+ghost use mathlib.Core.Path.{_≡_};
+ghost use Prim.Native.Nat.{_+_, _≤_, _<_};
+ghost use Rattle.constants.specs.Entry.{sameBytes};
+ghost use Rattle.cursor.specs.Fields.{bytesOf};
+ghost use Rattle.chunk.specs.Headers.{namesAt};
+ghost use Rattle.chunk.specs.Form.{namesOf};
+ghost use Rattle.model.specs.Expressions.{search-local};
+ghost use Rattle.variables.specs.Found.{foundIs, newest};
+use chunk::header::Header;
+use constants::Found;
+use cursor::Text;
+use cursor::TextRead;
+
+// Whether two texts of the chunk have the same bytes.
+fn same_text(chunk: &[u8], a: Text, b: Text) -> bool
+    ensures { λ r. ⌜ sameBytes (bytesOf (now (chunk .entry)) a) (bytesOf (now (chunk .entry)) b) ≡ r ⌝ }
+{
+    let i = a.start;
+    let j = b.start;
+    constants::same_bytes(
+        constants::part(chunk, i, a.len),
+        constants::part(chunk, j, b.len),
+    )
+}
+
+// i + 1 where the name there is the one sought, else what was found before.
+fn newer(chunk: &[u8], name: Text, sought: Text, i: usize, last: usize) -> usize
+    requires { ⌜ i < 18446744073709551615 ⌝ }
+    ensures { λ r. ⌜ newest (now (chunk .entry)) (bytesOf (now (chunk .entry)) sought) name i last ≡ r ⌝ }
+{
+    if same_text(chunk, name, sought) {
+        return i + 1;
+    }
+    last
+}
+
+// The last local of this name: its register.
+pub fn search_local(chunk: &[u8], h: Header, t: Text) -> Found
+    ensures { λ r. ⌜ search-local (now (chunk .entry)) (bytesOf (now (chunk .entry)) t) (namesOf (namesAt (now (chunk .entry)) (h .locals) (h .names))) 0 ≡ foundIs r ⌝ }
+{
+    let count = h.locals;
+    let mut at = h.names;
+    let mut i = 0;
+    let mut last = 0;
+    while i < count {
+        let TextRead::Text(name) = cursor::text_at(chunk, at) else {
+            return Found::Nothing;
+        };
+        at = name.start + name.len;
+        last = newer(chunk, name, t, i, last);
+        i += 1;
+    }
+    if last == 0 {
+        return Found::Nothing;
+    }
+    Found::At(last - 1)
+}
