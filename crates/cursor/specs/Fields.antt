@@ -69,31 +69,26 @@ module _ (s : List ℕ) (at n : ℕ) where
   unfolding hasBytes
   has-true e = leb-true (at + n) (length s) e
 
--- what was read lies in the bytes
+-- what was read lies in the bytes: it isn't what stands for missing ones
 module _ (s : List ℕ) (at : ℕ) where
+  there : {A : Type 0} (n : ℕ) (a b r : A) → (b ≡ r → ⊥) → elim (hasBytes s at n) [ true ↦ a | false ↦ b ] ≡ r → at + n ≤ length s
+  there n a b r differ e = go (hasBytes s at n) refl e
+    where
+      go : (t : Bool) → hasBytes s at n ≡ t → elim t [ true ↦ a | false ↦ b ] ≡ r → at + n ≤ length s
+      go true h g = has-true s at n h
+      go false h g = absurd (differ g)
+
   pub byte-inside : (b : ℕ) → byteAt s at ≡ Byte b → at + 1 ≤ length s
   unfolding byteAt
-  byte-inside b e = go (hasBytes s at 1) refl e
-    where
-      go : (t : Bool) → hasBytes s at 1 ≡ t → _≡_ {A = ByteRead} (elim t [ true ↦ Byte (getD s at 0) | false ↦ NoByte ]) (Byte b) → at + 1 ≤ length s
-      go true h g = has-true s at 1 h
-      go false h g = absurd (let z : _≡_ {A = ℕ} 0 1 = cc in omega arith)
+  byte-inside b e = there 1 (Byte (getD s at 0)) NoByte (Byte b) (λ q. let z : _≡_ {A = ℕ} 0 1 = cc in omega arith) e
 
   pub line-inside : (l : ℕ) → lineAt s at ≡ Line l → at + 4 ≤ length s
   unfolding lineAt
-  line-inside l e = go (hasBytes s at 4) refl e
-    where
-      go : (t : Bool) → hasBytes s at 4 ≡ t → _≡_ {A = LineRead} (elim t [ true ↦ Line (le4 s at) | false ↦ NoLine ]) (Line l) → at + 4 ≤ length s
-      go true h g = has-true s at 4 h
-      go false h g = absurd (let z : _≡_ {A = ℕ} 0 1 = cc in omega arith)
+  line-inside l e = there 4 (Line (le4 s at)) NoLine (Line l) (λ q. let z : _≡_ {A = ℕ} 0 1 = cc in omega arith) e
 
   pub bits-inside : (b : ℕ) → bitsAt s at ≡ Bits b → at + 8 ≤ length s
   unfolding bitsAt
-  bits-inside b e = go (hasBytes s at 8) refl e
-    where
-      go : (t : Bool) → hasBytes s at 8 ≡ t → _≡_ {A = BitsRead} (elim t [ true ↦ Bits (le8 s at) | false ↦ NoBits ]) (Bits b) → at + 8 ≤ length s
-      go true h g = has-true s at 8 h
-      go false h g = absurd (let z : _≡_ {A = ℕ} 0 1 = cc in omega arith)
+  bits-inside b e = there 8 (Bits (le8 s at)) NoBits (Bits b) (λ q. let z : _≡_ {A = ℕ} 0 1 = cc in omega arith) e
 
   pub text-inside : (t : Text) → textAt s at ≡ read.Text t → (at + 2 ≤ endOf t) × (endOf t ≤ length s)
   unfolding textAt

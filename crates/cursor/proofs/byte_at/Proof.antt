@@ -1,3 +1,4 @@
+-- By whether the byte is there.
 use denote.Ref.{now}
 use native.Mathlib.Omega.{arith}
 use Rattle.cursor.specs.Fields.{byteAt, has-yes, has-no}

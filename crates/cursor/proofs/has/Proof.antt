@@ -1,3 +1,4 @@
+-- at + n is compared with the length without a sum that could wrap.
 use native.Mathlib.Omega.{arith}
 use Rattle.cursor.specs.Fields.{has-yes, has-no}
 use Rattle.cursor.proofs.has.Statement.{statement}

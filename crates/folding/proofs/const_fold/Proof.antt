@@ -1,3 +1,4 @@
+-- Each arm is the definition's clause; a zero divisor is tested as there.
 use borrow.Author.Needs.{needs}
 use lib.Ieee.{ofBits}
 use Rattle.folding.specs.Folding.{foldOf}

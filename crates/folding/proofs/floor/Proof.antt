@@ -1,3 +1,4 @@
+-- Below 2 ^ 52 the truncated number is exact (`Whole`); everything else is a whole number, an infinity or NaN already.
 use native.Mathlib.Omega.{arith}
 use lib.Ieee.{ofBits, neg}
 use borrow.Author.Needs.{needs}

@@ -1,3 +1,4 @@
+-- A NaN's pattern without its sign is above an infinity's (`nanBits-above`).
 use lib.Ieee.{binary64}
 use lib.Ieee.Bits.{nanBits-above}
 use Rattle.folding.proofs.is_nan_pattern.Statement.{statement}

@@ -1,3 +1,4 @@
+-- The code's operations are the definition's, in its order.
 use borrow.Author.Needs.{needs}
 use Rattle.folding.proofs.modulo.Statement.{statement}
 use Rattle.folding.proofs.modulo.Tie as tie

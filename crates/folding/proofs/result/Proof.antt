@@ -1,3 +1,4 @@
+-- x differs from itself just where it is a NaN (`ne-nan`); else its bits are defined.
 use Rattle.folding.proofs.Floats.{ne-nan}
 use Rattle.folding.proofs.result.Statement.{statement}
 use Rattle.folding.proofs.result.Tie as tie

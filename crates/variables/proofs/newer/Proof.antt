@@ -1,3 +1,4 @@
+-- By the test of the two texts.
 use Rattle.variables.specs.Found.{newest}
 use native.Mathlib.Omega.{arith}
 use borrow.Author.Needs.{needs}

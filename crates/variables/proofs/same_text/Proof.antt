@@ -1,3 +1,4 @@
+-- The two parts are the two texts.
 use borrow.Author.Needs.{needs}
 use Rattle.variables.proofs.same_text.Statement.{statement}
 use Rattle.variables.proofs.same_text.Tie as tie

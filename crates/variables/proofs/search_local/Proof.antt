@@ -1,3 +1,4 @@
+-- The loop's invariant: the names from here on, with what was found before, give what all names give (`Seeking`).
 use denote.Ref.{now}
 use native.Mathlib.Nat.{sub-zero}
 use borrow.Author.Needs.{needs}

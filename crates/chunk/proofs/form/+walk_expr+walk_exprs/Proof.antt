@@ -1,3 +1,4 @@
+-- The cycle ends because nesting falls. A node is walked by walking its children (`expr-walked`); the loop's invariant says that whatever the rest gives, the whole gives (`more-walked`).
 use Prim.Native.Nat.{_+_, _-_, _*_}
 use mathlib.Core.Path.{_≡_, refl, sym, ap, _∙_}
 use mathlib.Core.List.{List}

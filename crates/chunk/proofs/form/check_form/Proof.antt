@@ -1,3 +1,4 @@
+-- Each way out is a law of `Forming`, at what the walk and the header gave.
 use Rattle.chunk.proofs.Forming.{as-many, form-long, form-header, form-cut, form-trailing, form-done}
 use mathlib.Core.Path.{_∙_, sym, ap}
 use native.Mathlib.Omega.{arith}

@@ -1,3 +1,4 @@
+-- A store past the end does nothing, as `set` does nothing there.
 use lib.Seq.{set-out}
 use borrow.Author.Needs.{needs}
 use Rattle.chunk.proofs.form.put_place.Statement.{statement}

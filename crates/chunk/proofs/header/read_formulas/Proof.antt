@@ -1,3 +1,4 @@
+-- By whether the count byte is there.
 use mathlib.Core.Path.{_∙_}
 use native.Mathlib.Omega.{arith}
 use Rattle.cursor.specs.Fields.{byte-inside}

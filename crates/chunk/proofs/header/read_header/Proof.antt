@@ -1,3 +1,4 @@
+-- Each way out is one way through `headerAt`.
 use borrow.Author.Tests.{le-leb, lt-leb, lt-ltb, le-ltb, eq-eqb, ne-eqb}
 use Rattle.chunk.specs.Headers.{headerAt}
 use borrow.Author.Needs.{needs}

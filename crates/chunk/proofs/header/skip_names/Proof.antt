@@ -1,3 +1,4 @@
+-- The loop's invariant: the place behind all names is the place behind those that are left.
 use borrow.Author.Needs.{needs}
 use mathlib.Core.Path.{_≡_, refl, _∙_}
 use native.Mathlib.Omega.{arith}

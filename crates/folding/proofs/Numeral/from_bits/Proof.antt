@@ -1,3 +1,4 @@
+-- `ofBits` takes every NaN's pattern to the one NaN, which 0 / 0 makes; `from_bits` has the others.
 use mathlib.Core.Path.{_∙_}
 use borrow.Author.Needs.{needs}
 use Rattle.folding.proofs.Floats.{nan-made}

@@ -2,7 +2,7 @@
 use lib.ListN.{List·getD-eq-default}
 use Rattle.instructions.specs.OpCodes.{opCodes, opCodeOf}
 use Rattle.instructions.specs.declared.OpCode.{OpCode}
-use Rattle.instructions.proofs.Matched.{passed}
+use Rattle.laws.specs.Matched.{passed}
 use Rattle.instructions.proofs.OpCode.from_u32.Statement.{statement}
 use Rattle.instructions.proofs.OpCode.from_u32.Tie as tie
 

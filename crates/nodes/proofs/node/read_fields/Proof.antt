@@ -1,3 +1,4 @@
+-- Each arm reads what `fieldsAt` reads for its kind; what was read lies in the chunk, so the place behind it fits.
 use mathlib.Core.Path.{_∙_}
 use native.Mathlib.Omega.{arith}
 use Rattle.cursor.specs.Fields.{byte-inside, bits-inside, text-inside}

@@ -1,3 +1,4 @@
+-- Each way out is one way through `nodeAt`: the tests taken and the fields read on it rewrite the definition to the answer.
 use mathlib.Core.Path.{_∙_}
 use native.Mathlib.Omega.{arith}
 use borrow.Author.Tests.{eq-eqb, ne-eqb}

@@ -1,3 +1,4 @@
+-- By the four cases; an argument count and one more fits.
 use borrow.Author.Needs.{needs}
 use Rattle.nodes.proofs.ast.Head.children.Statement.{statement}
 use Rattle.nodes.proofs.ast.Head.children.Tie as tie

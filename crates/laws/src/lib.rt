@@ -1,0 +1,1 @@
+// Proof only: laws that several crates cite.
