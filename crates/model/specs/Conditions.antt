@@ -1,5 +1,5 @@
 -- Conditional jumps, and `not`: goiftrue, goiffalse and what they call. Assumes nothing.
-use Prim.Native.Nat.{ℕ, _+_, _-_}
+use Prim.Native.Nat.{ℕ, _-_}
 use mathlib.Core.List.{List}
 use mathlib.Core.Bool.{Bool, true, false, not, _&&_}
 use lib.ListN.{length, set}
@@ -13,7 +13,7 @@ use Rattle.model.specs.declared.ExprContext.{ExprContext}
 use Rattle.model.specs.declared.State.{State}
 use Rattle.model.specs.Descriptor.{is, jumps, isKind}
 use Rattle.model.specs.Steps.{Buffers, done, Step, _>>=_, _>>_, return, words, change-words}
-use Rattle.model.specs.Jumps.{word, isOp, get-jump-control, remove-values}
+use Rattle.model.specs.Jumps.{word, isOp, jump-list, get-jump-control, remove-values}
 use Rattle.model.specs.Emission.{with-pc, emit-abc, emit-jump, concat, patch-to-here}
 use Rattle.model.specs.Discharge.{change-word, discharge-vars, free-expr, discharge2anyreg}
 
@@ -64,7 +64,7 @@ jump-if-false Global e = jumponcond e false
 jump-if-false Indexed e = jumponcond e false
 jump-if-false Jmp e = do
   invertjump e
-  return (e .info + 1)
+  return (jump-list (e .info))
 jump-if-false Relocable e = jumponcond e false
 jump-if-false NonReloc e = jumponcond e false
 jump-if-false Call e = jumponcond e false
@@ -80,7 +80,7 @@ jump-if-true KNum e = jumponcond e true
 jump-if-true Local e = jumponcond e true
 jump-if-true Global e = jumponcond e true
 jump-if-true Indexed e = jumponcond e true
-jump-if-true Jmp e = return (e .info + 1)
+jump-if-true Jmp e = return (jump-list (e .info))
 jump-if-true Relocable e = jumponcond e true
 jump-if-true NonReloc e = jumponcond e true
 jump-if-true Call e = jumponcond e true

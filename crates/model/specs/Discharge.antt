@@ -1,5 +1,5 @@
 -- Discharging: a descriptor becomes a value, a register or an RK operand. The middle part of codegen.rs. Assumes nothing.
-use Prim.Native.Nat.{ℕ, _+_}
+use Prim.Native.Nat.{ℕ, _+_, _%_}
 use mathlib.Core.List.{List, []}
 use mathlib.Core.Bool.{Bool, true, false, not, _||_}
 use lib.ListN.{length, set}
@@ -14,7 +14,7 @@ use Rattle.model.specs.declared.ExprContext.{ExprContext}
 use Rattle.model.specs.declared.State.{State}
 use Rattle.model.specs.Descriptor.{is, jumps, has-jumps, isKind}
 use Rattle.model.specs.Steps.{Step, _>>=_, _>>_, return, get, words, change-words, skip, when}
-use Rattle.model.specs.Jumps.{word, need-value, patch-list-aux}
+use Rattle.model.specs.Jumps.{word, jump-list, need-value, patch-list-aux}
 use Rattle.model.specs.Emission.{emit-abc, emit-abx, emit-jump, emit-nil, concat, patch-to-here, get-label, code-label, alloc-reg, reserve-regs, free-reg, add-constant}
 
 -- a word changed in place
@@ -141,7 +141,7 @@ unfoldable pub join-jump : ExprContext → Step ExprContext
 join-jump e =
     elim (isKind Jmp e) [
       | true ↦ do
-        t ← concat (e .t) (e .info + 1)
+        t ← concat (e .t) (jump-list (e .info))
         return (jumps t (e .f) e)
       | false ↦ return e
     ]
@@ -217,6 +217,6 @@ exp2rk e = do
   e₁ ← exp2val e
   rk-kind (e₁ .kind) e₁
 
--- the operand that it then is
+-- the operand that it then is: a constant's index is at most 255
 abbrev pub rk : ExprContext → ℕ
-rk e = elim (isKind K e) [ true ↦ e .info + bitRk | false ↦ e .info ]
+rk e = elim (isKind K e) [ true ↦ e .info % bitRk + bitRk | false ↦ e .info ]

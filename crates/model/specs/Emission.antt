@@ -103,11 +103,11 @@ patch-to-here list = do
   l ← concat (s .jpc) list
   change (with-jpc l)
 
--- `get_label`: the word to come, recorded as a label
+-- `get_label`: the word to come, recorded as a label; behind the last word of any code there is none to record
 unfoldable pub get-label : Step ℕ
 get-label = do
   s ← get
-  change (with-label (s .pc + 1))
+  change (λ s₁. elim (leb (s₁ .pc) maxWords) [ true ↦ with-label (s₁ .pc + 1) s₁ | false ↦ s₁ ])
   return (s .pc)
 
 -- `code_label`

@@ -3,7 +3,8 @@ use Prim.Native.Nat.{ℕ, zero, suc, _+_, _-_}
 use mathlib.Core.List.{List, [], _∷_}
 use mathlib.Core.Bool.{Bool, true, false, _||_}
 use mathlib.Core.Option.{Option, some, none}
-use lib.ListN.{length}
+use lib.Dec.{ltb}
+use Rattle.instructions.specs.Limits.{noReg}
 use Rattle.refusals.specs.declared.Refusal.the-variants as refusal
 use Rattle.instructions.specs.Word.{setAOf, setBOf, setCOf, abcOf}
 use Rattle.instructions.specs.declared.OpCode.the-variants as op
@@ -58,18 +59,22 @@ set-multret e =
         reserve-regs 1
     ]
 
+-- the register above one; none lies above 255, which is no register
+unfoldable pub above : ℕ → ℕ
+above r = elim (ltb r noReg) [ true ↦ r + 1 | false ↦ noReg ]
+
 -- the `Call` with B = b, on the line that was current before its arguments; then only its own register is taken
 unfoldable pub emit-call : ExprContext → ℕ → ℕ → Step ExprContext
 emit-call func b line = do
   pc ← emit-at (abcOf op.Call (func .info) b 2) line
-  change (with-free (func .info + 1))
+  change (with-free (above (func .info)))
   return (is Call pc func)
 
 -- the call of as many arguments as there are registers above the function's
 unfoldable pub closed-call : ExprContext → ℕ → Step ExprContext
 closed-call func line = do
   s ← get
-  emit-call func (s .free - (func .info + 1) + 1) line
+  emit-call func (s .free - above (func .info) + 1) line
 
 -- an expression that gives a list of values
 abbrev pub is-open : ExprContext → Bool

@@ -5,8 +5,8 @@ use mathlib.Core.List.{List}
 use mathlib.Core.Bool.{Bool, true, false, _||_}
 use lib.ListN.{length, getD, set}
 use lib.IntN.{ℤ, pos, negsuc, _-ℤ_}
-use lib.Dec.{eqb}
-use Rattle.instructions.specs.Limits.{noReg}
+use lib.Dec.{eqb, ltb}
+use Rattle.instructions.specs.Limits.{noReg, maxWords}
 use Rattle.instructions.specs.OpCodes.{codeOf, testMode}
 use Rattle.instructions.specs.Word.{opOf, opcodeOf, bOf, cOf, sbxOf, setAOf, setSbxOf, abcOf}
 use Rattle.instructions.specs.declared.OpCode.{OpCode}
@@ -25,6 +25,10 @@ abbrev pub behind : ℕ → ℤ → ℕ
 behind pc (pos n) = suc (pc + 1 + n)
 behind pc (negsuc zero) = 0
 behind pc (negsuc (suc n)) = suc (pc + 1) - suc (suc n)
+
+-- the list of the jump at a word; what is no word of any code has none
+unfoldable pub jump-list : ℕ → ℕ
+jump-list pc = elim (ltb pc maxWords) [ true ↦ pc + 1 | false ↦ 0 ]
 
 -- `get_jump_target`
 unfoldable pub get-jump-target : List ℕ → ℕ → ℕ

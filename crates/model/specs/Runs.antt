@@ -23,8 +23,8 @@ use Rattle.chunk.specs.Headers.{namesAt, formulasAt, headerAt}
 use Rattle.model.specs.Conditions.{pop, invertjump, jumponcond, jump-if-false, jump-if-true, goiftrue, goiffalse, emit-not, negate, code-not}
 use Rattle.model.specs.Discharge.{discharge-kind, free-expr, load-kind, discharge2reg, discharge2anyreg, land, load-both, settle, join-jump, exp2reg, exp2nextreg, exp2anyreg, exp2val, small, near, rk-kind, exp2rk}
 use Rattle.model.specs.Emission.{discharge-jpc, push, emit-at, emit, concat, emit-jump, patch-to-here, get-label, code-label, load-nil, emit-nil, check-stack, reserve-regs, alloc-reg, free-reg, add-constant, with-table}
-use Rattle.model.specs.Expressions.{search-local, set-multret, emit-call, closed-call, last-argument, compile-funcargs, set-indexed, code-self, resolve-var, leaf-expr, after-one, between, after-two, callee, compile-head, compile-expr}
-use Rattle.model.specs.Jumps.{get-jump-target, patch-jump, last-jump, linked, get-jump-control, need-value, retest, patch-test-reg, remove-values, patch-list-aux}
+use Rattle.model.specs.Expressions.{search-local, set-multret, above, emit-call, closed-call, last-argument, compile-funcargs, set-indexed, code-self, resolve-var, leaf-expr, after-one, between, after-two, callee, compile-head, compile-expr}
+use Rattle.model.specs.Jumps.{jump-list, get-jump-target, patch-jump, last-jump, linked, get-jump-control, need-value, retest, patch-test-reg, remove-values, patch-list-aux}
 use Rattle.model.specs.Operators.{free-in-turn, free-both, emit-arith, code-arith, code-unary, code-concat, far-numeral, compare-operands, emit-comp, code-comp, operand, before-right, code-and, code-or, join-concat, after-right, code-unop}
 use Rattle.model.specs.Reading.{local-named, read-leaf, read-one, read-binary, read-two, read-many, read-formulas, read-expr, read-args, reading}
 use Rattle.model.specs.Running.{regs, puts, joined, carry, run-from, Program, Run, returned, stuck-run, run}
@@ -194,9 +194,9 @@ cases =
     []
 
 p-runs-are-readings : each ran worlds (of-rows rows) ≡ each read worlds (of-rows rows)
-unfolding pad getAt setAt opCodeOf sbxOf excess abcOf aBxOf floor foldOf entryOf sameBytes same holds find append added hasBytes byteAt lineAt bitsAt textAt kindOf fieldsAt nodeAt binOpOf unOpOf spans spansOf exprsAt rest exprAt ended formOf namesAt formulasAt headerAt pop invertjump jumponcond jump-if-false jump-if-true goiftrue goiffalse emit-not negate code-not discharge-kind free-expr load-kind discharge2reg discharge2anyreg land load-both settle join-jump exp2reg exp2nextreg exp2anyreg exp2val small near rk-kind exp2rk discharge-jpc push emit-at emit concat emit-jump patch-to-here get-label code-label load-nil emit-nil check-stack reserve-regs alloc-reg free-reg add-constant search-local set-multret emit-call closed-call last-argument compile-funcargs set-indexed code-self resolve-var leaf-expr after-one between after-two callee compile-head compile-expr get-jump-target patch-jump last-jump linked get-jump-control need-value retest patch-test-reg remove-values patch-list-aux formulas lower-chunk lower-formed lowered free-in-turn free-both emit-arith code-arith code-unary code-concat far-numeral compare-operands emit-comp code-comp operand before-right code-and code-or join-concat after-right code-unop local-named read-leaf read-one read-binary read-two read-many read-formulas read-expr read-args regs puts joined carry run-from andThen compute negation span climb size odd units round neg sum add sub mul div lt eq le ne ofInt ofFields ofBits nanBits toBits isNan ran read numbers some-values weigh weigh-all sort digest varied several by-content calls-in-turn alternating worlds each of-rows rows nils
+unfolding pad getAt setAt opCodeOf sbxOf excess abcOf aBxOf floor foldOf entryOf sameBytes same holds find append added hasBytes byteAt lineAt bitsAt textAt kindOf fieldsAt nodeAt binOpOf unOpOf spans spansOf exprsAt rest exprAt ended formOf namesAt formulasAt headerAt pop invertjump jumponcond jump-if-false jump-if-true goiftrue goiffalse emit-not negate code-not discharge-kind free-expr load-kind discharge2reg discharge2anyreg land load-both settle join-jump exp2reg exp2nextreg exp2anyreg exp2val small near rk-kind exp2rk discharge-jpc push emit-at emit concat emit-jump patch-to-here get-label code-label load-nil emit-nil check-stack reserve-regs alloc-reg free-reg add-constant search-local set-multret above emit-call closed-call last-argument compile-funcargs set-indexed code-self resolve-var leaf-expr after-one between after-two callee compile-head compile-expr jump-list get-jump-target patch-jump last-jump linked get-jump-control need-value retest patch-test-reg remove-values patch-list-aux formulas lower-chunk lower-formed lowered free-in-turn free-both emit-arith code-arith code-unary code-concat far-numeral compare-operands emit-comp code-comp operand before-right code-and code-or join-concat after-right code-unop local-named read-leaf read-one read-binary read-two read-many read-formulas read-expr read-args regs puts joined carry run-from andThen compute negation span climb size odd units round neg sum add sub mul div lt eq le ne ofInt ofFields ofBits nanBits toBits isNan ran read numbers some-values weigh weigh-all sort digest varied several by-content calls-in-turn alternating worlds each of-rows rows nils
 p-runs-are-readings = refl
 
 runs-are-readings : each ran worlds cases ≡ each read worlds cases
-unfolding pad getAt setAt opCodeOf sbxOf excess abcOf aBxOf floor foldOf entryOf sameBytes same holds find append added hasBytes byteAt lineAt bitsAt textAt kindOf fieldsAt nodeAt binOpOf unOpOf spans spansOf exprsAt rest exprAt ended formOf namesAt formulasAt headerAt pop invertjump jumponcond jump-if-false jump-if-true goiftrue goiffalse emit-not negate code-not discharge-kind free-expr load-kind discharge2reg discharge2anyreg land load-both settle join-jump exp2reg exp2nextreg exp2anyreg exp2val small near rk-kind exp2rk discharge-jpc push emit-at emit concat emit-jump patch-to-here get-label code-label load-nil emit-nil check-stack reserve-regs alloc-reg free-reg add-constant search-local set-multret emit-call closed-call last-argument compile-funcargs set-indexed code-self resolve-var leaf-expr after-one between after-two callee compile-head compile-expr get-jump-target patch-jump last-jump linked get-jump-control need-value retest patch-test-reg remove-values patch-list-aux formulas lower-chunk lower-formed lowered free-in-turn free-both emit-arith code-arith code-unary code-concat far-numeral compare-operands emit-comp code-comp operand before-right code-and code-or join-concat after-right code-unop local-named read-leaf read-one read-binary read-two read-many read-formulas read-expr read-args regs puts joined carry run-from andThen compute negation span climb size odd units round neg sum add sub mul div lt eq le ne ofInt ofFields ofBits nanBits toBits isNan ran read numbers some-values weigh weigh-all sort digest varied several by-content calls-in-turn alternating worlds each cases
+unfolding pad getAt setAt opCodeOf sbxOf excess abcOf aBxOf floor foldOf entryOf sameBytes same holds find append added hasBytes byteAt lineAt bitsAt textAt kindOf fieldsAt nodeAt binOpOf unOpOf spans spansOf exprsAt rest exprAt ended formOf namesAt formulasAt headerAt pop invertjump jumponcond jump-if-false jump-if-true goiftrue goiffalse emit-not negate code-not discharge-kind free-expr load-kind discharge2reg discharge2anyreg land load-both settle join-jump exp2reg exp2nextreg exp2anyreg exp2val small near rk-kind exp2rk discharge-jpc push emit-at emit concat emit-jump patch-to-here get-label code-label load-nil emit-nil check-stack reserve-regs alloc-reg free-reg add-constant search-local set-multret above emit-call closed-call last-argument compile-funcargs set-indexed code-self resolve-var leaf-expr after-one between after-two callee compile-head compile-expr jump-list get-jump-target patch-jump last-jump linked get-jump-control need-value retest patch-test-reg remove-values patch-list-aux formulas lower-chunk lower-formed lowered free-in-turn free-both emit-arith code-arith code-unary code-concat far-numeral compare-operands emit-comp code-comp operand before-right code-and code-or join-concat after-right code-unop local-named read-leaf read-one read-binary read-two read-many read-formulas read-expr read-args regs puts joined carry run-from andThen compute negation span climb size odd units round neg sum add sub mul div lt eq le ne ofInt ofFields ofBits nanBits toBits isNan ran read numbers some-values weigh weigh-all sort digest varied several by-content calls-in-turn alternating worlds each cases
 runs-are-readings = refl
