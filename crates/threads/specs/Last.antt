@@ -1,0 +1,142 @@
+-- The last instruction: another word in its place (A set, `LoadNil` lengthened, the B of `Concat`), the comparison of `invertjump`, and a word taken back (`Not`).
+-- No list sees the word that changes, and words behind the code are free.
+use Prim.Native.Nat.{ℕ, suc, _+_, _%_, _≤_, _<_}
+use mathlib.Core.Bool.{Bool, true, false, not}
+use mathlib.Core.Path.{_≡_, refl, sym, _∙_}
+use mathlib.Core.List.{List, _∷_}
+use native.Mathlib.Omega.{arith}
+use lib.ListN.{length, set, length-set}
+use lib.Dec.{eqb}
+use Rattle.instructions.specs.Limits.{maxWords, noReg, aSize}
+use Rattle.instructions.specs.Word.{aOf, setAOf, abcOf}
+use Rattle.instructions.specs.Laws.{a-abc}
+use Rattle.instructions.specs.declared.OpCode.the-variants.{Test}
+use Rattle.model.specs.Values.{Kind}
+use Rattle.model.specs.Jumps.{word, get-jump-control}
+use Rattle.model.specs.Conditions.{bit}
+use Rattle.labelled.specs.Code.{Rk, same-ne, test, cmp, lbl, PW, mark, Instr, pl, br, pwidth, width, Code, size}
+use Rattle.threads.specs.Words.{word-same, word-other, set-a-abc}
+use Rattle.threads.specs.Places.{key, isLab, isL, look, look-beyond, look-range, count}
+use Rattle.threads.specs.Encoding.{comparison, comparison-tests, Coding, pend, EncI, enc-agree}
+use Rattle.threads.specs.Turns.{ctl-pair, tests}
+use Rattle.threads.specs.Chains.{bool-clash, chain-keep}
+use Rattle.threads.specs.Represents.{setH, Rep}
+use Rattle.threads.specs.Emitting.{no-lab, on-top, count-top, rep-plain, emitted-pair, rep-pair, edit-none}
+
+-- words behind the code are free
+pub rep-free : {K : Coding} {cap : ℕ} {ws : List ℕ} {H : ℕ → ℕ} {c : Code} (us : List ℕ) → length us ≡ length ws → ((q : ℕ) → q < size c → word us q ≡ word ws q) → Rep K cap ws H c → Rep K cap us H c
+rep-free {K = K} {ws = ws} {H = H} {c = c} us n g r = record {
+  len = n ∙ r .len;
+  enc = enc-agree K ws us c g (r .enc);
+  fits = r .fits;
+  few = r .few;
+  thr = λ ℓ. record {
+    at = r .thr ℓ .at;
+    chain = chain-keep ws us (H ℓ) (r .thr ℓ .at) n (λ q m j. g q (look-range (isLab ℓ) c q (sym (r .thr ℓ .is q) ∙ m))) (r .thr ℓ .chain);
+    once = r .thr ℓ .once;
+    is = r .thr ℓ .is;
+    short = r .thr ℓ .short;
+  };
+}
+
+-- a mark has no word
+pub rep-mark : {K : Coding} {cap : ℕ} {ws : List ℕ} {H : ℕ → ℕ} {c : Code} → K .plain ws (size c) mark → Rep K cap ws H c → Rep K cap ws H (pl mark ∷ c)
+rep-mark {ws = ws} e r = rep-plain ws (pl mark) refl (λ q l. refl) (omega (arith, r .fits)) (omega (arith, r .few)) e r refl
+
+-- the first word of the last instruction changed, no jump touched
+module _ {K : Coding} {cap : ℕ} {ws : List ℕ} {H : ℕ → ℕ} {c : Code} (us : List ℕ) (i j : Instr) (n : length us ≡ length ws) (g : (q : ℕ) → (q ≡ size c → ⊥) → word us q ≡ word ws q)
+    (wide : width j ≡ width i) (keys : (p n : ℕ) → key p n j ≡ key p n i) (labs : (ℓ : ℕ) → isLab ℓ j ≡ isLab ℓ i) (free : (ℓ : ℕ) → isL ℓ (i ∷ c) (size c) ≡ false) (e : EncI K us (size c) j) where
+  pub rep-last : Rep K cap ws H (i ∷ c) → Rep K cap us H (j ∷ c)
+  unfolding size look count
+  rep-last r = record {
+    len = n ∙ r .len;
+    enc = (e, enc-agree K ws us c (λ q l. g q (λ z. omega arith)) (r .enc .1));
+    fits = omega (arith, r .fits);
+    few = omega (arith, r .few);
+    thr = λ ℓ. record {
+      at = r .thr ℓ .at;
+      chain = chain-keep ws us (H ℓ) (r .thr ℓ .at) n (λ q m y. g q (λ z. bool-clash (isL ℓ (i ∷ c) (size c)) (rw z at (sym (r .thr ℓ .is q) ∙ m)) (free ℓ))) (r .thr ℓ .chain);
+      once = r .thr ℓ .once;
+      is = λ p. r .thr ℓ .is p ∙ rw (labs ℓ, keys p (size c)) refl;
+      short = rw (labs ℓ) (r .thr ℓ .short);
+    };
+  }
+
+-- taken back: an instruction that waits for nothing
+pub rep-pop : {K : Coding} {cap : ℕ} {ws : List ℕ} {H : ℕ → ℕ} {c : Code} {i : Instr} → pend i ≡ false → Rep K cap ws H (i ∷ c) → Rep K cap ws H c
+unfolding size
+rep-pop {c = c} {i = i} z r = record {
+  len = r .len;
+  enc = r .enc .1;
+  fits = omega (arith, r .fits);
+  few = omega (arith, r .few);
+  thr = λ ℓ. record {
+    at = r .thr ℓ .at;
+    chain = r .thr ℓ .chain;
+    once = r .thr ℓ .once;
+    is = λ p. r .thr ℓ .is p ∙ on-top (isLab ℓ) i c (no-lab ℓ i z) p;
+    short = rw (count-top (isLab ℓ) i c (no-lab ℓ i z)) at (r .thr ℓ .short);
+  };
+}
+
+-- other words for it and others after it, as a call takes over the words that make its open list
+pub rep-instead : {K : Coding} {cap : ℕ} {ws : List ℕ} {H : ℕ → ℕ} {c : Code} {i : Instr} (us : List ℕ) (j : Instr) → pend i ≡ false → pend j ≡ false → length us ≡ length ws → ((q : ℕ) → q < size c → word us q ≡ word ws q) →
+    width j + size c ≤ cap → width j + size c ≤ maxWords → EncI K us (size c) j → Rep K cap ws H (i ∷ c) → Rep K cap us H (j ∷ c)
+rep-instead us j zi zj n g room few e r = rep-plain us j n g room few e (rep-pop zi r) zj
+
+free-plain : (i : Instr) (c : Code) (ℓ : ℕ) → pend i ≡ false → isL ℓ (i ∷ c) (size c) ≡ false
+free-plain i c ℓ z = on-top (isLab ℓ) i c (no-lab ℓ i z) (size c) ∙ look-beyond (isLab ℓ) c (size c) (omega arith)
+
+-- `invertjump`, of the Jmp at p: A := (A == 0)
+abbrev pub inverted : List ℕ → ℕ → List ℕ
+inverted ws p = set ws (get-jump-control ws p) (setAOf (word ws (get-jump-control ws p)) (bit (eqb (aOf (word ws (get-jump-control ws p))) 0)))
+
+flip : (k : Bool) → bit (eqb (bit k % aSize) 0) ≡ bit (not k)
+flip true = refl
+flip false = refl
+
+pub rep-invert : {K : Coding} {cap : ℕ} {ws : List ℕ} {H : ℕ → ℕ} {c : Code} {o : Kind} {k : Bool} {x y : Rk} {ℓ : ℕ} → Rep K cap ws H (br (cmp o k x y) (lbl ℓ) ∷ c) →
+    Rep K cap (inverted ws (1 + size c)) H (br (cmp o (not k) x y) (lbl ℓ) ∷ c)
+unfolding size look
+rep-invert {K = K} {ws = ws} {c = c} {o = o} {k = k} {x = x} {y = y} {ℓ = ℓ} r = rw at-c (rep-last us (br (cmp o k x y) (lbl ℓ)) (br (cmp o (not k) x y) (lbl ℓ)) (length-set ws (size c) v) (λ q z. word-other ws (size c) q v z)
+    refl (λ q m. refl) (λ m. refl) free ((u₀, v₀, new, r .enc .0 .0 .3, r .enc .0 .0 .4, r .enc .0 .0 .5), (rw (word-other ws (size c) (1 + size c) v (λ z. omega arith)) (r .enc .0 .1 .0), tt)) r)
+  where
+    u₀ : ℕ
+    u₀ = r .enc .0 .0 .0
+
+    v₀ : ℕ
+    v₀ = r .enc .0 .0 .1
+
+    h : word ws (size c) ≡ abcOf (comparison o) (bit k) u₀ v₀
+    h = r .enc .0 .0 .2
+
+    at-c : get-jump-control ws (1 + size c) ≡ size c
+    at-c = ctl-pair ws (1 + size c) (size c) (omega arith) (tests (word ws (size c)) (comparison o) (bit k) u₀ v₀ h (comparison-tests o))
+
+    v : ℕ
+    v = setAOf (word ws (size c)) (bit (eqb (aOf (word ws (size c))) 0))
+
+    us : List ℕ
+    us = set ws (size c) v
+
+    new : word us (size c) ≡ abcOf (comparison o) (bit (not k)) u₀ v₀
+    new = word-same ws (size c) v (omega (arith, r .fits, r .len)) ∙ rw (h, a-abc (comparison o) (bit k) u₀ v₀, flip k, set-a-abc (comparison o) (bit k) u₀ v₀ (bit (not k))) refl
+
+    free : (m : ℕ) → isL m (br (cmp o k x y) (lbl ℓ) ∷ c) (size c) ≡ false
+    free m = rw (same-ne (size c) (1 + size c) (λ z. omega arith)) (look-beyond (isLab m) c (size c) (omega arith))
+
+module _ {K : Coding} {cap : ℕ} {ws : List ℕ} {H : ℕ → ℕ} {c : Code} {w : PW} (one : pwidth w ≡ 1) (r : Rep K cap ws H (pl w ∷ c)) where
+  -- another word in its place
+  pub rep-replace : (u : PW) (v : ℕ) → pwidth u ≡ 1 → K .plain (set ws (size c) v) (size c) u → Rep K cap (set ws (size c) v) H (pl u ∷ c)
+  rep-replace u v o e = rep-last (set ws (size c) v) (pl w) (pl u) (length-set ws (size c) v) (λ q z. word-other ws (size c) q v z) (o ∙ sym one) (λ p n. refl) (λ ℓ. refl)
+      (λ ℓ. free-plain (pl w) c ℓ refl) e r
+
+  -- `pop`
+  pub rep-taken : (v : ℕ) → Rep K cap (set ws (size c) v) H c
+  rep-taken v = rep-free (set ws (size c) v) (length-set ws (size c) v) (λ q l. word-other ws (size c) q v (λ z. omega arith)) (rep-pop refl r)
+
+  -- `jumponcond` on a `Not` that is still to get its register: popped, then `Test` with the opposite sense and a Jmp under a new label; no jump is pending to here
+  pub rep-popped : (b m : ℕ) (k : Bool) → b < noReg → H 0 ≡ 0 → H m ≡ 0 → 1 + size c < cap → 1 + size c < maxWords →
+      Rep K cap (emitted-pair (set ws (size c) 0) (size c) (H 0) (abcOf Test b 0 (bit k))) (setH m (suc (1 + size c)) (setH 0 0 H)) (br (test b k) (lbl m) ∷ c)
+  rep-popped b m k l z f room few =
+      rw (edit-none (rep-taken 0) 0 _ z) at (rep-pair (rep-taken 0) (test b k) m (abcOf Test b 0 (bit k)) refl tt (λ us e. (e, l)) f room few)

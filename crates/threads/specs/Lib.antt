@@ -1,0 +1,16 @@
+pub mod Edits
+pub mod Words
+pub mod Places
+pub mod Encoding
+pub mod Turns
+pub mod Chains
+pub mod Represents
+pub mod Emitting
+pub mod Needs
+pub mod Last
+pub mod Growing
+pub mod Holding
+pub mod Stepping
+pub mod Going
+pub mod Landing
+pub mod Settling
