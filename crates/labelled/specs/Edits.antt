@@ -16,7 +16,7 @@ width-setreg : (t : Bool) (r b : ℕ) (c : Bool) → cwidth (setreg t r b c) ≡
 width-setreg true r b c = refl
 width-setreg false r b c = refl
 
-width-ed : (a : Act) (c : Ctrl) (ℓ : ℕ) → width (edBr a c ℓ) ≡ cwidth c
+pub width-ed : (a : Act) (c : Ctrl) (ℓ : ℕ) → width (edBr a c ℓ) ≡ cwidth c
 width-ed keep c ℓ = refl
 width-ed (land vt r dt) always ℓ = refl
 width-ed (land vt r dt) (test b c) ℓ = refl

@@ -11,10 +11,11 @@ use borrow.Author.Tests.{ne-eqb}
 use Rattle.instructions.specs.Limits.{maxWords, noReg}
 use Rattle.model.specs.Jumps.{word, get-jump-target, last-jump, concat-jumps, linked, remove-values}
 use Rattle.labelled.specs.Code.{same, same-refl, same-true}
-use Rattle.threads.specs.Edits.{pick, pick-is}
+use Rattle.threads.specs.Edits.{pick-is}
 use Rattle.threads.specs.Words.{IsJ, is-jmp, next, next-same, next-link, jumpTo, jumped, jumped-off, len-jump, ret, walk}
 use Rattle.threads.specs.Places.{mem}
 use Rattle.threads.specs.Turns.{ret-jump, len-ret}
+use Rattle.labelled.specs.Machine.{pick}
 
 -- booleans
 pub bool-clash : {A : Type 0} (b : Bool) → b ≡ true → b ≡ false → A

@@ -5,49 +5,18 @@ use mathlib.Core.Path.{_≡_, refl}
 use mathlib.Core.List.{[], _∷_}
 use mathlib.Core.Option.{Option, some, none}
 use Rattle.labelled.specs.Code.{same, same-refl, same-ne, same-true, Ctrl, always, test, tset, tseta, cmp, to, lbl, Instr, pl, br, width, cwidth, Code, size, Act, keep, land, re, edit, ed1, edBr, setreg}
-
-abbrev pub pick {ℓ} : {A : Type ℓ} → Bool → A → A → A
-pick true a b = a
-pick false a b = b
+use Rattle.labelled.specs.Machine.{pick}
+use Rattle.labelled.specs.Emission.{one}
 
 pub pick-is : {A : Type 0} (t : Bool) (a b : A) → elim t [ true ↦ a | false ↦ b ] ≡ pick t a b
 pick-is true a b = refl
 pick-is false a b = refl
-
--- the action on one label
-abbrev pub one : ℕ → Act → ℕ → Act
-one a x ℓ = pick (same ℓ a) x keep
 
 -- ---- widths
 
 pub width-setreg : (t : Bool) (r b : ℕ) (c : Bool) → cwidth (setreg t r b c) ≡ 2
 width-setreg true r b c = refl
 width-setreg false r b c = refl
-
-pub width-ed : (a : Act) (c : Ctrl) (ℓ : ℕ) → width (edBr a c ℓ) ≡ cwidth c
-width-ed keep c ℓ = refl
-width-ed (land vt r dt) always ℓ = refl
-width-ed (land vt r dt) (test b c) ℓ = refl
-width-ed (land vt none dt) (tset b c) ℓ = refl
-width-ed (land vt (some r) dt) (tset b c) ℓ = width-setreg (same r b) r b c
-width-ed (land vt r dt) (tseta a b c) ℓ = refl
-width-ed (land vt r dt) (cmp o c x y) ℓ = refl
-width-ed (re m false) c ℓ = refl
-width-ed (re m true) always ℓ = refl
-width-ed (re m true) (test b c) ℓ = refl
-width-ed (re m true) (tset b c) ℓ = refl
-width-ed (re m true) (tseta a b c) ℓ = refl
-width-ed (re m true) (cmp o c x y) ℓ = refl
-
-pub width-ed1 : (g : ℕ → Act) (i : Instr) → width (ed1 g i) ≡ width i
-width-ed1 g (pl w) = refl
-width-ed1 g (br c (to p)) = refl
-width-ed1 g (br c (lbl ℓ)) = width-ed (g ℓ) c ℓ
-
-pub size-edit : (g : ℕ → Act) (c : Code) → size (edit g c) ≡ size c
-unfolding size edit
-size-edit g [] = refl
-size-edit g (i ∷ c) = rw (width-ed1 g i, size-edit g c) refl
 
 -- ---- one after the other
 

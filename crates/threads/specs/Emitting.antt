@@ -11,13 +11,16 @@ use lib.ListN.{length, set, length-set}
 use Rattle.instructions.specs.Limits.{maxWords, noReg}
 use Rattle.model.specs.Jumps.{word, linked, remove-values, patch-list-aux}
 use Rattle.labelled.specs.Code.{same, same-refl, same-ne, same-true, same-false, Ctrl, always, to, lbl, PW, Instr, pl, br, pwidth, width, Code, size, Act, land, re, edit}
-use Rattle.threads.specs.Edits.{pick, one, size-edit, edit-fuse, strip-then}
+use Rattle.threads.specs.Edits.{edit-fuse, strip-then}
 use Rattle.threads.specs.Words.{word-same, word-other, is-jmp, newJ, next, next-new}
 use Rattle.threads.specs.Places.{jofs, cwidth-tail, key, key-at, isLab, isL, look, mem, count, look-range, look-beyond, edit-absent}
 use Rattle.threads.specs.Encoding.{Coding, pend, Ctl, Open, EncI, enc-agree}
 use Rattle.threads.specs.Turns.{optR}
 use Rattle.threads.specs.Chains.{bool-clash, Chain, chain-keep}
 use Rattle.threads.specs.Represents.{Thr, setH, Rep, rep-patch, rep-strip, rep-concat}
+use Rattle.labelled.specs.Machine.{pick}
+use Rattle.labelled.specs.Emission.{here, one}
+use Rattle.labelled.specs.Edits.{size-edit}
 
 -- heads that agree
 pub rep-heads : {K : Coding} {cap : ℕ} {ws : List ℕ} {H : ℕ → ℕ} (G : ℕ → ℕ) {c : Code} → ((ℓ : ℕ) → H ℓ ≡ G ℓ) → Rep K cap ws H c → Rep K cap ws G c
@@ -128,10 +131,6 @@ emitted-pair ws n j w = set (emitted ws n j w) (1 + n) newJ
 -- `emit_jump`, difference 1
 abbrev pub emitted-jump : List ℕ → ℕ → ℕ → List ℕ
 emitted-jump ws n j = linked (set (remove-values (length ws) ws j) n newJ) (suc n) j
-
--- the pending jumps lead to the end
-abbrev pub here : Code → ℕ → Act
-here c = one 0 (land (size c) none (size c))
 
 opt-none : optR noReg ≡ none
 opt-none = rw (same-refl noReg) refl

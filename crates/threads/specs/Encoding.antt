@@ -16,9 +16,9 @@ use Rattle.model.specs.Values.{Kind, global-read, index-read, call, equal, less
 use Rattle.model.specs.Jumps.{word}
 use Rattle.model.specs.Conditions.{bit}
 use Rattle.labelled.specs.Code.{Rk, same, same-true, same-false, Ctrl, always, test, tset, tseta, cmp, Tgt, to, lbl, PW, Instr, pl, br, pwidth, width, Code, size}
-use Rattle.threads.specs.Edits.{pick}
 use Rattle.threads.specs.Words.{IsJ, is-jmp, jmpTo}
 use Rattle.threads.specs.Places.{jofs, tail, cwidth-tail, key, key-at, isLab, look, look-range, atPos, size-atPos}
+use Rattle.labelled.specs.Machine.{pick}
 
 -- a word of the test mode
 abbrev pub isTest : ℕ → Bool

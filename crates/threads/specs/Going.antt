@@ -9,13 +9,13 @@ use Rattle.model.specs.Steps.{Buffers, done, Step, andThen, _>>=_, _>>_, return
 use Rattle.model.specs.Jumps.{concat-jumps, linked}
 use Rattle.model.specs.Emission.{with-jpc, concat, patch-to-here}
 use Rattle.labelled.specs.Code.{same-ne, Ctrl, lbl, mark, pl, br, Code, re, edit}
-use Rattle.threads.specs.Edits.{pick, one}
 use Rattle.threads.specs.Words.{linked-none}
 use Rattle.threads.specs.Encoding.{Coding}
 use Rattle.threads.specs.Represents.{setH}
-use Rattle.threads.specs.Needs.{hit}
 use Rattle.threads.specs.Holding.{Holds, with-code, concat-zero}
 use Rattle.threads.specs.Stepping.{hold-into, hold-to-here}
+use Rattle.labelled.specs.Machine.{pick}
+use Rattle.labelled.specs.Emission.{hit, one}
 
 -- list 1 and the new list are one, list 2 goes to here
 abbrev pub go-on : {A : Type 0} → ℕ → ℕ → ℕ → (ℕ → A) → Step A

@@ -19,12 +19,13 @@ use Rattle.model.specs.Emission.{with-pc, with-jpc, with-label, discharge-jpc, 
 use Rattle.model.specs.declared.ExprContext.{ExprContext}
 use Rattle.model.specs.Conditions.{invertjump}
 use Rattle.labelled.specs.Code.{Code, size}
-use Rattle.threads.specs.Edits.{pick, pick-is}
+use Rattle.threads.specs.Edits.{pick-is}
 use Rattle.threads.specs.Words.{newJ, patch-none, linked-none}
 use Rattle.threads.specs.Encoding.{Coding}
 use Rattle.threads.specs.Represents.{Rep}
 use Rattle.threads.specs.Emitting.{discharged, emitted, emitted-jump}
 use Rattle.threads.specs.Last.{inverted}
+use Rattle.labelled.specs.Machine.{pick}
 
 -- ---- what a step ends in
 

@@ -18,22 +18,20 @@ use Rattle.model.specs.Jumps.{word, concat-jumps, linked, patch-list-aux}
 use Rattle.model.specs.Emission.{with-pc, with-jpc, with-label, emit, patch-to-here, get-label, code-label, concat}
 use Rattle.model.specs.Discharge.{land as land-both}
 use Rattle.labelled.specs.Code.{same, same-refl, same-ne, same-true, val, PW, setw, lbs, mark, Instr, pl, pwidth, Code, size, Act, keep, land, re, edit}
-use Rattle.threads.specs.Edits.{pick, one, size-edit, Safe, edit-also, edit-ext, also}
+use Rattle.threads.specs.Edits.{Safe, edit-also, edit-ext, also}
 use Rattle.threads.specs.Places.{isLab, isL, look-edit, look-range, lab-land, lab-off}
 use Rattle.threads.specs.Encoding.{Coding}
 use Rattle.threads.specs.Turns.{optR}
 use Rattle.threads.specs.Represents.{setH}
-use Rattle.threads.specs.Emitting.{here, on-top}
+use Rattle.threads.specs.Emitting.{on-top}
 use Rattle.threads.specs.Holding.{Ends, gives, ends-then, Holds, kept-trans, Became, with-code, label-is}
 use Rattle.threads.specs.Stepping.{hold-emit, hold-emit₀, hold-here, hold-label, hold-patch, hold-mark, hold-same}
+use Rattle.labelled.specs.Machine.{pick}
+use Rattle.labelled.specs.Emission.{here, one}
+use Rattle.labelled.specs.Edits.{size-edit}
+use Rattle.labelled.specs.Discharge.{lands, pairG}
 
 -- ---- the edits
-
-abbrev pub lands : ℕ → ℕ → ℕ → ℕ → ℕ → ℕ → ℕ → Act
-lands t f r final pf pt ℓ = pick (same ℓ t) (land final (some r) pt) (pick (same ℓ f) (land final (some r) pf) keep)
-
-abbrev pub pairG : Code → ℕ → ℕ → ℕ → ℕ → ℕ → Act
-pairG c j t f r ℓ = pick (same ℓ 0) (land (size c) none (size c)) (pick (same ℓ j) (re 0 false) (lands t f r (2 + size c) (size c) (1 + size c) ℓ))
 
 -- the four edits of `load_both`, one after the other
 module _ (c : Code) (j t f r : ℕ) (j0 : j ≡ 0 → ⊥) (t0 : t ≡ 0 → ⊥) (f0 : f ≡ 0 → ⊥) (jt : j ≡ t → ⊥) (jf : j ≡ f → ⊥) (tf : t ≡ f → ⊥) where

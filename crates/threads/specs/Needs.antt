@@ -12,30 +12,14 @@ use Rattle.instructions.specs.declared.OpCode.the-variants.{Test, TestSet}
 use Rattle.model.specs.Jumps.{word, keeps-value, need-value}
 use Rattle.model.specs.Conditions.{bit}
 use Rattle.labelled.specs.Code.{same, same-refl, same-ne, Ctrl, always, test, tset, tseta, cmp, to, lbl, Instr, pl, br, Code, size}
-use Rattle.threads.specs.Edits.{pick}
 use Rattle.threads.specs.Words.{next}
 use Rattle.threads.specs.Places.{tail, key, key-at, memK, here-lab, below-lab, isLab, isL, look, mem, look-imp, look-beyond, look-apart, lab-apart}
 use Rattle.threads.specs.Encoding.{isTest, comparison, comparison-tests, comparison-keeps-none, Coding, pend, isP, lab-pend, EncI, Enc, prev-word}
 use Rattle.threads.specs.Turns.{ctl-pair, ctl-alone, tests, sets, jmp-sets-none}
 use Rattle.threads.specs.Chains.{bool-clash, Chain}
 use Rattle.threads.specs.Represents.{Rep, fuel}
-
--- does a pending jump of list t or f stand in the code; with vals, one that keeps no value
-abbrev pub isSet : Ctrl → Bool
-isSet always = false
-isSet (test a b) = false
-isSet (tset a b) = true
-isSet (tseta a b c) = false
-isSet (cmp o c x y) = false
-
-abbrev pub hit1 : Bool → ℕ → ℕ → Instr → Bool
-hit1 vals t f (pl w) = false
-hit1 vals t f (br c (to p)) = false
-hit1 vals t f (br c (lbl ℓ)) = (same ℓ t || same ℓ f) && not (vals && isSet c)
-
-unfoldable pub hit : Bool → ℕ → ℕ → Code → Bool
-hit vals t f [] = false
-hit vals t f (i ∷ c) = hit1 vals t f i || hit vals t f c
+use Rattle.labelled.specs.Machine.{pick}
+use Rattle.labelled.specs.Emission.{hit, hit1, isSet}
 
 -- ---- tests of places and of instructions
 

@@ -6,7 +6,9 @@ use mathlib.Core.List.{List, [], _∷_}
 use mathlib.Core.Option.{Option, some, none}
 use native.Mathlib.Omega.{arith}
 use Rattle.labelled.specs.Code.{same, same-refl, same-eq, same-ne, same-true, same-false, Ctrl, always, test, tset, tseta, cmp, Tgt, to, lbl, PW, Instr, pl, br, width, cwidth, Code, size, Act, keep, land, re, edit, ed1, edBr, setreg}
-use Rattle.threads.specs.Edits.{pick, one, width-ed, size-edit}
+use Rattle.labelled.specs.Machine.{pick}
+use Rattle.labelled.specs.Emission.{one}
+use Rattle.labelled.specs.Edits.{size-edit, width-ed}
 
 -- the word of an instruction that holds its jump: the last one
 abbrev pub jofs : Ctrl → ℕ

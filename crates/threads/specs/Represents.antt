@@ -9,12 +9,14 @@ use lib.ListN.{length, length-append}
 use Rattle.instructions.specs.Limits.{maxWords, noReg}
 use Rattle.model.specs.Jumps.{concat-jumps, linked, remove-values, patch-list-aux}
 use Rattle.labelled.specs.Code.{same, same-refl, same-ne, same-true, same-false, to, lbl, Instr, pl, br, Code, size, Act, keep, land, re, edit, ed1, edBr}
-use Rattle.threads.specs.Edits.{pick, one, size-edit}
 use Rattle.threads.specs.Words.{patchAt, patch-walk, len-jump}
 use Rattle.threads.specs.Places.{edI, isLab, isL, atPos, allPos, mem, count, count-size, all-edit, size-atPos, width-edI, key-edI, look-edit, look-or, look-imp, look-apart, look-range, look-none, look-other, count-edit, count-or, lab-re, lab-land, lab-apart, lab-off, lab-gone, lab-kept, lab-both}
 use Rattle.threads.specs.Encoding.{Coding, pend, isP, lab-pend, EncI, Enc}
 use Rattle.threads.specs.Turns.{optR, ret-jump, len-ret, patch-keeps, len-patch, patch-step, strip-step, link-step}
 use Rattle.threads.specs.Chains.{bool-clash, NoDup, Chain, Apart, Small, mem-append, nodup-append, chain-in, fold, walk-fold, len-fold, fold-chain, fold-stays, stripAt, strip-fold, jump-chain, join-chain, Joined, stays, sent, join-how}
+use Rattle.labelled.specs.Machine.{pick}
+use Rattle.labelled.specs.Emission.{one}
+use Rattle.labelled.specs.Edits.{size-edit}
 
 -- one label's list: its places in the order of the list, from the head h
 pub record Thr (ws : List ℕ) (c : Code) (ℓ h : ℕ) : Type 0 where

@@ -18,13 +18,15 @@ use Rattle.model.specs.declared.ExprKind.the-variants.{Jmp}
 use Rattle.model.specs.Descriptor.{isKind}
 use Rattle.model.specs.Discharge.{land as land-both, load-both, settle}
 use Rattle.labelled.specs.Code.{same, same-refl, same-ne, same-true, val, setw, lbs, mark, always, lbl, pl, br, Code, size, re, edit}
-use Rattle.threads.specs.Edits.{pick, one}
 use Rattle.threads.specs.Encoding.{Coding}
 use Rattle.threads.specs.Represents.{setH}
 use Rattle.threads.specs.Holding.{Ends, gives, ends-then, ends-map, Holds, Aside, aside-with, Kept, kept-trans}
-use Rattle.threads.specs.Needs.{hit, need-hit}
+use Rattle.threads.specs.Needs.{need-hit}
 use Rattle.threads.specs.Stepping.{hold-jump, hold-heads}
-use Rattle.threads.specs.Landing.{lands, pairG, hold-land-all, both, hold-both}
+use Rattle.threads.specs.Landing.{hold-land-all, both, hold-both}
+use Rattle.labelled.specs.Machine.{pick}
+use Rattle.labelled.specs.Emission.{hit, one}
+use Rattle.labelled.specs.Discharge.{lands, pairG}
 
 -- ---- `load_both`, of a comparison, whose jump is in a list already, and of another value, which jumps over the loads
 

@@ -17,17 +17,19 @@ use Rattle.model.specs.Values.{Kind}
 use Rattle.model.specs.declared.ExprContext.{ExprContext}
 use Rattle.model.specs.Conditions.{bit, pop, invertjump}
 use Rattle.labelled.specs.Code.{Rk, same, same-refl, same-ne, same-true, Ctrl, always, test, cmp, lbl, PW, mark, pl, br, pwidth, Code, size, land, re, edit}
-use Rattle.threads.specs.Edits.{pick, one, size-edit}
 use Rattle.threads.specs.Words.{word-same, word-other, newJ, patch-none, remove-none, linked-none}
 use Rattle.threads.specs.Places.{jofs, cwidth-tail, isL}
 use Rattle.threads.specs.Encoding.{Coding, Ctl, Open}
 use Rattle.threads.specs.Turns.{optR}
 use Rattle.threads.specs.Represents.{setH, rep-patch, rep-strip, rep-concat, rep-concat′}
-use Rattle.threads.specs.Emitting.{discharged, emitted, emitted-pair, emitted-jump, here, edit-none, rep-heads, rep-discharge, rep-emit, rep-pair, rep-emit-jump}
-use Rattle.threads.specs.Needs.{hit, some-hit}
+use Rattle.threads.specs.Emitting.{discharged, emitted, emitted-pair, emitted-jump, edit-none, rep-heads, rep-discharge, rep-emit, rep-pair, rep-emit-jump}
+use Rattle.threads.specs.Needs.{some-hit}
 use Rattle.threads.specs.Growing.{More, rep-grow}
 use Rattle.threads.specs.Last.{rep-mark, rep-instead, rep-replace, rep-taken, inverted, rep-invert}
 use Rattle.threads.specs.Holding.{Ends, ends-then, ends-map, Holds, Became, with-code, discharge-is, concat-is, here-is, label-is, invert-is, written, emit-ends, stripped, jump-ends}
+use Rattle.labelled.specs.Machine.{pick}
+use Rattle.labelled.specs.Emission.{here, hit, one}
+use Rattle.labelled.specs.Edits.{size-edit}
 
 -- `pop`: the last word and its line are taken back
 abbrev taken : State → Buffers → Buffers

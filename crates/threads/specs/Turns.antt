@@ -18,10 +18,10 @@ use Rattle.instructions.specs.declared.OpCode.the-variants.{Test, TestSet}
 use Rattle.model.specs.Jumps.{word, isOp, get-jump-control, keeps-value, retest}
 use Rattle.model.specs.Conditions.{bit}
 use Rattle.labelled.specs.Code.{same, same-refl, same-false, Ctrl, always, test, tset, tseta, cmp, to, lbl, Instr, pl, br, Code, size, land, re, settest}
-use Rattle.threads.specs.Edits.{pick}
 use Rattle.threads.specs.Words.{word-same, word-other, IsJ, is-jmp, op-jmp, set-a-abc, abc-c, jmpTo, jumpTo, ret, ret-is, retest-is, patchAt, jumped, jumped-off, len-jump}
 use Rattle.threads.specs.Places.{jofs, tail, key, edI, atPos, width-edI}
 use Rattle.threads.specs.Encoding.{isTest, comparison, comparison-tests, comparison-keeps-none, Coding, pend, isP, Ctl, Open, EncI, Enc, local-step}
+use Rattle.labelled.specs.Machine.{pick}
 
 abbrev ctl : List ℕ → ℕ → ℕ
 ctl ws p = get-jump-control ws p

@@ -19,8 +19,9 @@ use Rattle.instructions.specs.Laws.{op-a-bx, InSbx, sbx-a-sbx, code-lt}
 use Rattle.instructions.specs.declared.OpCode.{OpCode}
 use Rattle.instructions.specs.declared.OpCode.the-variants.{Jmp, Test}
 use Rattle.labelled.specs.Code.{same}
-use Rattle.threads.specs.Edits.{pick, pick-is}
+use Rattle.threads.specs.Edits.{pick-is}
 use Rattle.model.specs.Jumps.{word, behind, get-jump-target, patch-jump, linked, get-jump-control, keeps-value, retest, patch-test-reg, remove-values, patch-list-aux}
+use Rattle.labelled.specs.Machine.{pick}
 
 -- ---- buffers
 
