@@ -1,5 +1,5 @@
 -- The nodes of a chunk as trees: `Expr` of ast.rs, grouped by how many sub-expressions a node has. Assumes nothing.
-use Prim.Native.Nat.{ℕ, suc, _+_}
+use Prim.Native.Nat.{ℕ, _+_}
 use mathlib.Core.List.{List, [], _∷_, _++_}
 use mathlib.Core.Bool.{Bool}
 use Rattle.cursor.specs.declared.Text.{Text}

@@ -1,5 +1,5 @@
 -- The form of a chunk (document 01, "The chunk"; refusals 1 to 8): from bytes to nodes, or the first refusal. Assumes nothing.
-use Prim.Native.Nat.{ℕ, zero, suc, _+_, _-_}
+use Prim.Native.Nat.{ℕ, zero, suc, _-_}
 use mathlib.Core.List.{List, []}
 use mathlib.Core.Bool.{Bool, true, false}
 use lib.ListN.{length}

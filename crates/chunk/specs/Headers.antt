@@ -4,7 +4,7 @@ use mathlib.Core.Path.{_≡_, refl}
 use native.Mathlib.Omega.{arith}
 use mathlib.Core.List.{List, [], _∷_}
 use mathlib.Core.Bool.{Bool, true, false}
-use lib.Dec.{eqb, leb, ltb}
+use lib.Dec.{eqb, leb}
 use Rattle.refusals.specs.declared.Refusal.the-variants as refusal
 use Rattle.cursor.specs.Fields.{byteAt, textAt, endOf}
 use Rattle.nodes.specs.Nodes.{withByte, withText, require}

@@ -5,7 +5,7 @@ use mathlib.Core.List.{List, map}
 use lib.ListN.{length}
 use lib.Seq.{sets}
 use Rattle.buffers.specs.Pad.{zeros, pad}
-use Rattle.chunk.specs.Ast.{Span, Exprs, spansOf}
+use Rattle.chunk.specs.Ast.{Span, spansOf}
 use Rattle.chunk.specs.Form.{Parsed, parsed, refused, Formed, formed, refused as unformed, maxLength}
 use Rattle.chunk.specs.declared.form.Walk.{Walk}
 use Rattle.chunk.specs.declared.form.WalkEnd.{WalkEnd}

@@ -6,7 +6,6 @@ use lib.ListN.{length, set}
 use lib.Seq.{sets}
 use lib.Dec.{leb}
 use Rattle.instructions.specs.Limits.{maxConstants}
-use Rattle.refusals.specs.declared.Refusal.{Refusal}
 use Rattle.refusals.specs.declared.Refusal.the-variants.{Constants, Pool}
 use Rattle.constants.specs.Entry.{part, holds}
 use Rattle.constants.specs.declared.Val.{Val}

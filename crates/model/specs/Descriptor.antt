@@ -1,6 +1,6 @@
 -- The expression descriptor: `ExprContext` of codegen.rs. Assumes nothing.
 use Prim.Native.Nat.{ℕ}
-use mathlib.Core.Bool.{Bool, true, false, not, _&&_}
+use mathlib.Core.Bool.{Bool, not, _&&_}
 use lib.Dec.{eqb}
 use lib.Ieee.{binary64, ofBits}
 use Rattle.folding.specs.declared.Numeral.{Numeral}

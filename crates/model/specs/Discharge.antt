@@ -1,7 +1,7 @@
 -- Discharging: a descriptor becomes a value, a register or an RK operand. The middle part of codegen.rs. Assumes nothing.
 use Prim.Native.Nat.{ℕ, _+_, _%_}
-use mathlib.Core.List.{List, []}
-use mathlib.Core.Bool.{Bool, true, false, not, _||_}
+use mathlib.Core.List.{[]}
+use mathlib.Core.Bool.{true, false, not, _||_}
 use lib.ListN.{length, set}
 use lib.Dec.{eqb, leb}
 use Rattle.instructions.specs.Limits.{bitRk, maxIndexRk}
@@ -15,7 +15,7 @@ use Rattle.model.specs.declared.State.{State}
 use Rattle.model.specs.Descriptor.{is, jumps, has-jumps, isKind}
 use Rattle.model.specs.Steps.{Step, _>>=_, _>>_, return, get, words, change-words, skip, when}
 use Rattle.model.specs.Jumps.{word, jump-list, need-value, patch-list-aux}
-use Rattle.model.specs.Emission.{emit-abc, emit-abx, emit-jump, emit-nil, concat, patch-to-here, get-label, code-label, alloc-reg, reserve-regs, free-reg, add-constant}
+use Rattle.model.specs.Emission.{emit-abc, emit-abx, emit-jump, emit-nil, concat, patch-to-here, get-label, code-label, alloc-reg, free-reg, add-constant}
 
 -- a word changed in place
 abbrev pub change-word : ℕ → (ℕ → ℕ) → Step (Unit {0})

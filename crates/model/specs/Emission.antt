@@ -1,9 +1,9 @@
 -- Emitting words, registers and constants: the lower part of codegen.rs. Assumes nothing.
 use Prim.Native.Nat.{ℕ, _+_, _-_, max}
-use mathlib.Core.List.{List, []}
+use mathlib.Core.List.{List}
 use mathlib.Core.Bool.{Bool, true, false, _&&_, _||_}
 use lib.ListN.{length, set}
-use lib.IntN.{ℤ, negsuc}
+use lib.IntN.{negsuc}
 use lib.Dec.{eqb, leb, ltb}
 use Rattle.refusals.specs.declared.Refusal.the-variants.{Registers, Words}
 use Rattle.instructions.specs.Limits.{noReg, bitRk, maxStack, maxWords}
@@ -103,7 +103,7 @@ patch-to-here list = do
   l ← concat (s .jpc) list
   change (with-jpc l)
 
--- `get_label`: the word to come, recorded as a label; behind the last word of any code there is none to record
+-- `get_label`: the word to come, recorded as a label; a place above 131,071, which no code reaches, isn't recorded
 unfoldable pub get-label : Step ℕ
 get-label = do
   s ← get
@@ -125,7 +125,7 @@ load-nil r = do
   emit-abc LoadNil r r 0
   skip
 
--- `emit_nil` for one register: nothing at word 0, where all registers are nil; an adjoining `LoadNil` is lengthened; both unless a label lies at the word to come
+-- `emit_nil` for one register: nothing at word 0, where all registers above the locals are nil; an adjoining `LoadNil` is lengthened; both unless a label lies at the word to come
 unfoldable pub emit-nil : ℕ → Step (Unit {0})
 emit-nil from = do
   s ← get

@@ -1,7 +1,7 @@
 -- The lowering of a whole chunk: what is left in every lent buffer, and the counts and the frame, or the refusal (document 01, "Lowering" and "Refused chunks"). Assumes nothing.
 use Prim.Native.Nat.{ℕ, zero, suc, _+_}
 use mathlib.Core.List.{List}
-use mathlib.Core.Bool.{Bool, true, false}
+use mathlib.Core.Bool.{true, false}
 use lib.ListN.{length}
 use lib.Dec.{leb}
 use Rattle.refusals.specs.declared.Refusal.{Refusal}
@@ -10,7 +10,7 @@ use Rattle.buffers.specs.Pad.{zeros, pad}
 use Rattle.instructions.specs.declared.OpCode.the-variants as op
 use Rattle.chunk.specs.Ast.{spansOf}
 use Rattle.chunk.specs.Headers.{headerAt}
-use Rattle.chunk.specs.Form.{Formed, formed, refused as unformed, formOf, maxNesting}
+use Rattle.chunk.specs.Form.{formed, refused as unformed, formOf, maxNesting}
 use Rattle.chunk.specs.Walks.{placesOf}
 use Rattle.chunk.specs.declared.header.Header.{Header}
 use Rattle.chunk.specs.declared.header.HeaderRead.{HeaderRead}
@@ -19,7 +19,7 @@ use Rattle.model.specs.declared.ExprContext.{ExprContext}
 use Rattle.model.specs.declared.State.{State}
 use Rattle.model.specs.declared.Lowered.{Lowered}
 use Rattle.model.specs.declared.Lowered.the-variants as answer
-use Rattle.model.specs.Steps.{Buffers, Result, done, refused, Step, _>>=_, _>>_, return, skip}
+use Rattle.model.specs.Steps.{Buffers, Result, done, refused, Step, _>>=_, _>>_, skip}
 use Rattle.model.specs.Emission.{emit-abc, reserve-regs}
 use Rattle.model.specs.Discharge.{exp2nextreg}
 use Rattle.model.specs.Expressions.{compile-expr}

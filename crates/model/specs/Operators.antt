@@ -1,8 +1,8 @@
 -- Operators: infix, postfix and prefix, with folding, arithmetic, comparisons and concatenation. Assumes nothing.
-use Prim.Native.Nat.{ℕ, _+_, _-_}
-use mathlib.Core.List.{List, []}
-use mathlib.Core.Bool.{Bool, true, false, not, _&&_}
-use lib.Dec.{eqb, leb, ltb}
+use Prim.Native.Nat.{ℕ, _-_}
+use mathlib.Core.List.{[]}
+use mathlib.Core.Bool.{Bool, true, false, _&&_}
+use lib.Dec.{ltb}
 use Rattle.instructions.specs.Limits.{maxIndexRk}
 use Rattle.instructions.specs.Word.{setBOf}
 use Rattle.instructions.specs.declared.OpCode.{OpCode}
@@ -22,8 +22,7 @@ use Rattle.nodes.specs.declared.ast.BinOp.{BinOp}
 use Rattle.nodes.specs.declared.ast.BinOp.the-variants as bin
 use Rattle.nodes.specs.declared.ast.UnOp.{UnOp}
 use Rattle.nodes.specs.declared.ast.UnOp.the-variants as un
-use Rattle.model.specs.declared.ExprKind.{ExprKind}
-use Rattle.model.specs.declared.ExprKind.the-variants.{K, KNum, Jmp, Relocable}
+use Rattle.model.specs.declared.ExprKind.the-variants.{KNum, Jmp, Relocable}
 use Rattle.model.specs.declared.ExprContext.{ExprContext}
 use Rattle.model.specs.declared.State.{State}
 use Rattle.model.specs.Descriptor.{newOf, is, jumps, isKind, is-numeral}
@@ -98,14 +97,15 @@ code-concat e₁ e₂ = do
 
 -- ---- comparisons
 
-abbrev pub above : Found → ℕ → Bool
-above (At k) count = ltb maxIndexRk k
-above Nothing count = ltb maxIndexRk count
+-- no RK operand can name an entry above 255, nor the next one of a table with 256
+abbrev pub is-far : Found → ℕ → Bool
+is-far (At k) count = ltb maxIndexRk k
+is-far Nothing count = ltb maxIndexRk count
 
 -- a numeral that is listed above 255, or unlisted with 256 entries or more (difference 2)
 unfoldable pub far-numeral : ExprContext → Step Bool
 far-numeral e s m =
-    done (is-numeral e && above (find (holds (m .pool) [] (val.Number (e .number) (e .bits))) (s .table .count) (m .kinds) (m .values)) (s .table .count)) s m
+    done (is-numeral e && is-far (find (holds (m .pool) [] (val.Number (e .number) (e .bits))) (s .table .count) (m .kinds) (m .values)) (s .table .count)) s m
 
 -- `code_comp`'s operands as RK: the left one first, unless it is a far numeral (difference 2)
 unfoldable pub compare-operands : Bool → ExprContext → ExprContext → (ExprContext → ExprContext → Step ExprContext) → Step ExprContext

@@ -1,14 +1,13 @@
 -- Reading the formulas by the manual, section 2.5 and those named below (document 01, "The reading"). Its only state is the steps taken. Assumes nothing.
 use Prim.Native.Nat.{ℕ}
 use mathlib.Core.List.{List, [], _∷_}
-use mathlib.Core.Bool.{Bool, true, false, not}
+use mathlib.Core.Bool.{true, false, not}
 use mathlib.Core.Option.{Option, some, none}
 use Rattle.folding.specs.declared.Arith.the-variants as arith
 use Rattle.cursor.specs.Fields.{bytesOf}
 use Rattle.cursor.specs.declared.Text.{Text}
 use Rattle.nodes.specs.declared.ast.BinOp.{BinOp}
 use Rattle.nodes.specs.declared.ast.BinOp.the-variants as bin
-use Rattle.nodes.specs.declared.ast.UnOp.{UnOp}
 use Rattle.nodes.specs.declared.ast.UnOp.the-variants as un
 use Rattle.nodes.specs.declared.ast.Leaf.{Leaf}
 use Rattle.nodes.specs.declared.ast.Leaf.the-variants as leaf

@@ -28,7 +28,7 @@ use Rattle.model.specs.Operators.{free-in-turn, free-both, emit-arith, c
 use Rattle.model.specs.Reading.{local-named, read-leaf, read-one, read-binary, read-two, read-many, read-formulas, read-expr, read-args}
 use Rattle.model.specs.Running.{regs, puts, joined, carry, run-from}
 use Rattle.model.specs.Steps.{andThen, Buffers}
-use Rattle.model.specs.Values.{compute, negation, nil, number, text}
+use Rattle.model.specs.Values.{compute, negation, nil, number, text, other}
 use lib.Ieee.{span, climb, size, odd, units, round, neg, sum, add, sub, mul, div, lt, eq, le, ne, ofInt, ofFields, ofBits, nanBits, toBits, isNan}
 use Rattle.model.specs.Lowering.{formulas, lower-chunk, lower-formed, lowered, Sizes, Out}
 use Rattle.refusals.specs.Number.{numberOf}
@@ -105,12 +105,36 @@ more-rows : List Row
 more-rows =
     -- self-test: f() or 1: the register tested is the target, so `Test`
     record { chunk = (0 ∷ 1 ∷ 7 ∷ 8 ∷ 14 ∷ 12 ∷ 16 ∷ 0 ∷ 6 ∷ 4 ∷ 1 ∷ 0 ∷ 102 ∷ 3 ∷ 2 ∷ 0 ∷ 0 ∷ 0 ∷ 0 ∷ 0 ∷ 0 ∷ 240 ∷ 63 ∷ []); answer = words (5 ∷ 8421404 ∷ 16410 ∷ 2147483670 ∷ 16385 ∷ 16777246 ∷ []) (1 ∷ 1 ∷ 1 ∷ 1 ∷ 1 ∷ 1 ∷ []) (4 ∷ 3 ∷ []) (1 ∷ 4607182418800017408 ∷ []) 1 2 } ∷
-    -- popped-not: not a and b, over two lines: the `Not` gives its word and its line back
+    -- popped-not: not a and b, over four lines: the `Not` gives its word and its line back
     record { chunk = (0 ∷ 1 ∷ 7 ∷ 9 ∷ 4 ∷ 0 ∷ 0 ∷ 0 ∷ 13 ∷ 8 ∷ 9 ∷ 2 ∷ 0 ∷ 0 ∷ 0 ∷ 1 ∷ 6 ∷ 5 ∷ 1 ∷ 0 ∷ 0 ∷ 0 ∷ 1 ∷ 0 ∷ 97 ∷ 6 ∷ 5 ∷ 3 ∷ 0 ∷ 0 ∷ 0 ∷ 1 ∷ 0 ∷ 98 ∷ []); answer = words (5 ∷ 16410 ∷ 2147500054 ∷ 16389 ∷ 2147500054 ∷ 16386 ∷ 8388610 ∷ 16777246 ∷ []) (1 ∷ 1 ∷ 1 ∷ 3 ∷ 3 ∷ 3 ∷ 3 ∷ 3 ∷ []) (4 ∷ 4 ∷ []) (1 ∷ 65537 ∷ []) 2 2 } ∷
     -- power: 2 ^ 3 isn't folded (difference 3)
     record { chunk = (0 ∷ 1 ∷ 7 ∷ 8 ∷ 5 ∷ 3 ∷ 2 ∷ 0 ∷ 0 ∷ 0 ∷ 0 ∷ 0 ∷ 0 ∷ 0 ∷ 64 ∷ 3 ∷ 2 ∷ 0 ∷ 0 ∷ 0 ∷ 0 ∷ 0 ∷ 0 ∷ 8 ∷ 64 ∷ []); answer = words (2160066577 ∷ 16777246 ∷ []) (1 ∷ 1 ∷ []) (3 ∷ 3 ∷ []) (4613937818241073152 ∷ 4611686018427387904 ∷ []) 0 2 } ∷
     -- nan: a negated NaN numeral: `Unm` has a register (difference 6)
     record { chunk = (0 ∷ 1 ∷ 8 ∷ 8 ∷ 0 ∷ 3 ∷ 2 ∷ 1 ∷ 0 ∷ 0 ∷ 0 ∷ 0 ∷ 0 ∷ 248 ∷ 127 ∷ []); answer = words (1 ∷ 18 ∷ 16777246 ∷ []) (1 ∷ 1 ∷ 1 ∷ []) (3 ∷ []) (9221120237041090561 ∷ []) 0 2 } ∷
+    -- call-line: f(a) over two lines: `Call` has the line before its arguments
+    record { chunk = (0 ∷ 1 ∷ 12 ∷ 17 ∷ 1 ∷ 0 ∷ 0 ∷ 0 ∷ 1 ∷ 6 ∷ 5 ∷ 1 ∷ 0 ∷ 0 ∷ 0 ∷ 1 ∷ 0 ∷ 102 ∷ 6 ∷ 5 ∷ 2 ∷ 0 ∷ 0 ∷ 0 ∷ 1 ∷ 0 ∷ 97 ∷ []); answer = words (5 ∷ 16453 ∷ 16810012 ∷ 16777246 ∷ []) (1 ∷ 2 ∷ 1 ∷ 2 ∷ []) (4 ∷ 4 ∷ []) (1 ∷ 65537 ∷ []) 2 2 } ∷
+    -- open-call-line: f(...) over two lines: so has an open one
+    record { chunk = (2 ∷ 1 ∷ 12 ∷ 17 ∷ 1 ∷ 0 ∷ 0 ∷ 0 ∷ 1 ∷ 6 ∷ 5 ∷ 1 ∷ 0 ∷ 0 ∷ 0 ∷ 1 ∷ 0 ∷ 102 ∷ 5 ∷ 1 ∷ 2 ∷ 0 ∷ 0 ∷ 0 ∷ []); answer = words (5 ∷ 101 ∷ 32796 ∷ 16777246 ∷ []) (1 ∷ 2 ∷ 1 ∷ 2 ∷ []) (4 ∷ []) (1 ∷ []) 1 2 } ∷
+    -- lengthened: x, nil, nil: the second nil lengthens the first one's `LoadNil`
+    record { chunk = (0 ∷ 3 ∷ 6 ∷ 4 ∷ 1 ∷ 0 ∷ 120 ∷ 0 ∷ 0 ∷ 0 ∷ 1 ∷ 2 ∷ 0 ∷ 0 ∷ 0 ∷ []); answer = words (5 ∷ 16777283 ∷ 33554462 ∷ []) (1 ∷ 1 ∷ 2 ∷ []) (4 ∷ []) (1 ∷ []) 1 3 } ∷
+    -- local-kept: (a and nil).a with a local a: the local's register isn't overwritten
+    record { chunk = (1 ∷ 1 ∷ 1 ∷ 0 ∷ 97 ∷ 1 ∷ 10 ∷ 4 ∷ 1 ∷ 0 ∷ 97 ∷ 7 ∷ 8 ∷ 13 ∷ 0 ∷ 0 ∷ 6 ∷ 4 ∷ 1 ∷ 0 ∷ 97 ∷ []); answer = words (90 ∷ 2147483670 ∷ 64 ∷ 12582982 ∷ 16777310 ∷ []) (1 ∷ 1 ∷ 1 ∷ 1 ∷ 1 ∷ []) (4 ∷ []) (1 ∷ []) 1 2 } ∷
+    -- at-least: a >= b is b <= a
+    record { chunk = (0 ∷ 1 ∷ 7 ∷ 8 ∷ 10 ∷ 6 ∷ 4 ∷ 1 ∷ 0 ∷ 97 ∷ 6 ∷ 4 ∷ 1 ∷ 0 ∷ 98 ∷ []); answer = words (5 ∷ 16453 ∷ 8388697 ∷ 2147483670 ∷ 16386 ∷ 8388610 ∷ 16777246 ∷ []) (1 ∷ 1 ∷ 1 ∷ 1 ∷ 1 ∷ 1 ∷ 1 ∷ []) (4 ∷ 4 ∷ []) (1 ∷ 65537 ∷ []) 2 2 } ∷
+    -- nil-key: true[nil]: nil as RK
+    record { chunk = (0 ∷ 1 ∷ 9 ∷ 0 ∷ 1 ∷ 0 ∷ 0 ∷ 0 ∷ []); answer = words (8388610 ∷ 4194310 ∷ 16777246 ∷ []) (1 ∷ 1 ∷ 1 ∷ []) (0 ∷ []) (0 ∷ []) 0 2 } ∷
+    -- nil-or: nil or true: no test
+    record { chunk = (0 ∷ 1 ∷ 7 ∷ 8 ∷ 14 ∷ 0 ∷ 0 ∷ 1 ∷ 0 ∷ []); answer = words (8388610 ∷ 16777246 ∷ []) (1 ∷ 1 ∷ []) ([]) ([]) 0 2 } ∷
+    -- text-and: "" and nil: no test
+    record { chunk = (0 ∷ 1 ∷ 7 ∷ 8 ∷ 13 ∷ 4 ∷ 4 ∷ 0 ∷ 0 ∷ 0 ∷ 0 ∷ []); answer = words (16777246 ∷ []) (1 ∷ []) (4 ∷ []) (0 ∷ []) 0 2 } ∷
+    -- not-or: not (... or true): both lists lose their `TestSet`
+    record { chunk = (2 ∷ 1 ∷ 8 ∷ 8 ∷ 1 ∷ 7 ∷ 8 ∷ 14 ∷ 5 ∷ 0 ∷ 1 ∷ 0 ∷ []); answer = words (16777253 ∷ 16410 ∷ 2147500054 ∷ 2 ∷ 2147500054 ∷ 16386 ∷ 8388610 ∷ 16777246 ∷ []) (1 ∷ 1 ∷ 1 ∷ 1 ∷ 1 ∷ 1 ∷ 1 ∷ 1 ∷ []) ([]) ([]) 0 2 } ∷
+    -- other-words-1: a chunk for which the unchanged Rust gives other words
+    record { chunk = (3 ∷ 1 ∷ 1 ∷ 0 ∷ 97 ∷ 1 ∷ 13 ∷ 0 ∷ 7 ∷ 8 ∷ 13 ∷ 7 ∷ 8 ∷ 14 ∷ 7 ∷ 8 ∷ 13 ∷ 6 ∷ 4 ∷ 1 ∷ 0 ∷ 99 ∷ 1 ∷ 0 ∷ 8 ∷ 8 ∷ 1 ∷ 4 ∷ 4 ∷ 0 ∷ 0 ∷ 3 ∷ 2 ∷ 0 ∷ 0 ∷ 0 ∷ 0 ∷ 0 ∷ 0 ∷ 240 ∷ 127 ∷ []); answer = words (69 ∷ 90 ∷ 2147532822 ∷ 2147483670 ∷ 2147500054 ∷ 32833 ∷ 2147500054 ∷ 16450 ∷ 8388674 ∷ 16777310 ∷ []) (1 ∷ 1 ∷ 1 ∷ 1 ∷ 1 ∷ 1 ∷ 1 ∷ 1 ∷ 1 ∷ 1 ∷ []) (4 ∷ 4 ∷ 3 ∷ []) (1 ∷ 65536 ∷ 9218868437227405312 ∷ []) 1 2 } ∷
+    -- other-words-2: a chunk for which the unchanged Rust gives other words
+    record { chunk = (2 ∷ 1 ∷ 7 ∷ 8 ∷ 2 ∷ 7 ∷ 8 ∷ 14 ∷ 7 ∷ 8 ∷ 13 ∷ 6 ∷ 4 ∷ 1 ∷ 0 ∷ 98 ∷ 3 ∷ 2 ∷ 0 ∷ 0 ∷ 0 ∷ 0 ∷ 0 ∷ 0 ∷ 248 ∷ 63 ∷ 7 ∷ 8 ∷ 14 ∷ 1 ∷ 0 ∷ 1 ∷ 0 ∷ 3 ∷ 2 ∷ 0 ∷ 0 ∷ 0 ∷ 0 ∷ 0 ∷ 0 ∷ 12 ∷ 64 ∷ []); answer = words (5 ∷ 26 ∷ 2147581974 ∷ 16385 ∷ 16410 ∷ 2147549206 ∷ 2147516438 ∷ 8388610 ∷ 2147500054 ∷ 16386 ∷ 8388610 ∷ 4227086 ∷ 16777246 ∷ []) (1 ∷ 1 ∷ 1 ∷ 1 ∷ 1 ∷ 1 ∷ 1 ∷ 1 ∷ 1 ∷ 1 ∷ 1 ∷ 1 ∷ 1 ∷ []) (4 ∷ 3 ∷ 3 ∷ []) (1 ∷ 4609434218613702656 ∷ 4615063718147915776 ∷ []) 1 2 } ∷
+    -- other-words-3: a chunk for which the unchanged Rust gives other words
+    record { chunk = (1 ∷ 1 ∷ 1 ∷ 0 ∷ 97 ∷ 2 ∷ 13 ∷ 0 ∷ 7 ∷ 8 ∷ 14 ∷ 7 ∷ 8 ∷ 13 ∷ 7 ∷ 8 ∷ 13 ∷ 6 ∷ 4 ∷ 1 ∷ 0 ∷ 120 ∷ 2 ∷ 0 ∷ 7 ∷ 8 ∷ 3 ∷ 6 ∷ 4 ∷ 1 ∷ 0 ∷ 121 ∷ 0 ∷ 0 ∷ 7 ∷ 8 ∷ 13 ∷ 13 ∷ 0 ∷ 2 ∷ 0 ∷ 7 ∷ 8 ∷ 9 ∷ 1 ∷ 0 ∷ 4 ∷ 4 ∷ 4 ∷ 0 ∷ 115 ∷ 50 ∷ 53 ∷ 53 ∷ 6 ∷ 4 ∷ 1 ∷ 0 ∷ 99 ∷ []); answer = words (69 ∷ 90 ∷ 2147598358 ∷ 2147581974 ∷ 16453 ∷ 12615759 ∷ 16474 ∷ 2147549206 ∷ 2147500054 ∷ 2185281624 ∷ 2147483670 ∷ 16450 ∷ 8388674 ∷ 82053 ∷ 25165918 ∷ []) (1 ∷ 1 ∷ 1 ∷ 1 ∷ 1 ∷ 1 ∷ 1 ∷ 1 ∷ 1 ∷ 1 ∷ 1 ∷ 1 ∷ 1 ∷ 1 ∷ 1 ∷ []) (4 ∷ 4 ∷ 0 ∷ 2 ∷ 4 ∷ 4 ∷ []) (1 ∷ 65537 ∷ 0 ∷ 0 ∷ 131076 ∷ 393217 ∷ []) 7 3 } ∷
     []
 
 -- chunks with short buffers: a refusal is given on the spot (difference 4)

@@ -1,11 +1,11 @@
 -- Running code words as the VM paper says (document 01, "Running"). Whatever uses a register at or above the frame, a constant that isn't listed, a word past the end,
--- an open list that isn't there or is still open, or goes to a word that isn't later, is stuck; and the words carried out are counted. Assumes nothing.
-use Prim.Native.Nat.{ℕ, zero, suc, _+_, _-_, _≤_}
+-- an open list that isn't there or is still open, a global's name that is no text, operands or an opcode that the lowering never emits, or goes to a word that isn't later,
+-- is stuck; and the words carried out are counted. Assumes nothing.
+use Prim.Native.Nat.{ℕ, zero, suc, _+_, _-_}
 use mathlib.Core.List.{List, [], _∷_, _++_}
 use mathlib.Core.Bool.{Bool, true, false, not}
 use mathlib.Core.Option.{Option, some, none}
-use lib.ListN.{length, getD, set, take}
-use lib.Seq.{sets}
+use lib.ListN.{length, getD, set}
 use lib.IntN.{ℤ, pos, negsuc}
 use lib.Dec.{eqb, leb, ltb}
 use Rattle.instructions.specs.Limits.{bitRk}

@@ -63,7 +63,7 @@ change-words f s m = done tt s (record { code = f (m .code); lines = m .lines; k
 abbrev pub skip : Step (Unit {0})
 skip = return tt
 
--- if then, and if then else
+-- if then
 abbrev pub when : Bool → Step (Unit {0}) → Step (Unit {0})
 when t x = elim t [ true ↦ x | false ↦ skip ]
 

@@ -1,0 +1,794 @@
+// Discharging: a descriptor becomes a value, a register or an RK operand. The middle part of rilua's codegen.rs, over the lent buffers.
+// A state and a descriptor go in by value and come back in the answer. Nothing is assumed of either.
+ghost use mathlib.Core.Bool.{false};
+ghost use mathlib.Core.List.{List, []};
+ghost use mathlib.Core.Path.{_≡_};
+ghost use Prim.Native.Nat.{ℕ, _+_};
+ghost use lib.ListN.{length, set};
+ghost use Rattle.instructions.specs.Word.{setAOf, setBOf, setCOf};
+ghost use Rattle.model.specs.declared.ExprKind.the-variants.{Nil, KNum, Global, Indexed, NonReloc, Call, VarArg};
+ghost use Rattle.model.specs.declared.State.{State};
+ghost use Rattle.model.specs.Steps.{Buffers, done, andThen, steppedIs, givenIs, describedIs};
+ghost use Rattle.model.specs.Descriptor.{tagOf, isKind, is, jumps, has-jumps};
+ghost use Rattle.model.specs.Jumps.{word};
+ghost use Rattle.model.specs.Emission.{with-table, add-constant};
+ghost use Rattle.model.specs.Discharge.{discharge-kind, discharge-vars, free-expr, number-constant, load-kind, discharge2reg as discharge2regOf, discharge2anyreg as discharge2anyregOf, land as landOf, load-both, settle as settleOf, join-jump, exp2reg as exp2regOf, exp2nextreg as exp2nextregOf, exp2anyreg as exp2anyregOf, exp2val as exp2valOf, small as smallOf, near as nearOf, rk-kind, exp2rk as exp2rkOf, rk as rkOf};
+ghost use Rattle.emission.specs.Parts.{bufs};
+ghost use Rattle.discharge.specs.Kinds.{put, give, over-of, load-yes, load-no, placed, next-of, any-of, constant-of};
+use constants::Added;
+use constants::Table;
+use constants::Val;
+use constants::add_constant;
+use emission::alloc_reg;
+use emission::code_label;
+use emission::emit_abc;
+use emission::emit_abx;
+use emission::emit_jump;
+use emission::emit_nil;
+use emission::free_reg;
+use emission::get_label;
+use emission::patch_to_here;
+use instructions::Instruction;
+use instructions::OpCode;
+use jumps::concat_jumps;
+use jumps::jump_list;
+use jumps::need_value;
+use jumps::patch_list_aux;
+use jumps::put_word;
+use jumps::word_at;
+use model::Described;
+use model::ExprContext;
+use model::ExprKind;
+use model::Given;
+use model::State;
+use model::Stepped;
+
+// ---- descriptors
+
+// The number of a kind.
+fn tag(kind: ExprKind) -> usize
+    ensures { λ r. ⌜ tagOf kind ≡ r ⌝ }
+{
+    match kind {
+        ExprKind::Nil => 0,
+        ExprKind::True => 1,
+        ExprKind::False => 2,
+        ExprKind::K => 3,
+        ExprKind::KNum => 4,
+        ExprKind::Local => 5,
+        ExprKind::Global => 6,
+        ExprKind::Indexed => 7,
+        ExprKind::Jmp => 8,
+        ExprKind::Relocable => 9,
+        ExprKind::NonReloc => 10,
+        ExprKind::Call => 11,
+        ExprKind::VarArg => 12,
+    }
+}
+
+pub fn is_kind(e: ExprContext, kind: ExprKind) -> bool
+    ensures { λ r. ⌜ isKind kind e ≡ r ⌝ }
+{
+    let own = e.kind;
+    tag(own) == tag(kind)
+}
+
+// The descriptor with another kind and info.
+pub fn with_kind(e: ExprContext, kind: ExprKind, info: usize) -> ExprContext
+    ensures { λ r. ⌜ is kind info e ≡ r ⌝ }
+{
+    ExprContext {
+        kind,
+        info,
+        aux: e.aux,
+        number: e.number,
+        bits: e.bits,
+        t: e.t,
+        f: e.f,
+    }
+}
+
+// The descriptor with other jump lists.
+pub fn with_jumps(e: ExprContext, t: usize, f: usize) -> ExprContext
+    ensures { λ r. ⌜ jumps t f e ≡ r ⌝ }
+{
+    let kind = e.kind;
+    ExprContext {
+        kind,
+        info: e.info,
+        aux: e.aux,
+        number: e.number,
+        bits: e.bits,
+        t,
+        f,
+    }
+}
+
+pub fn has_jumps(e: ExprContext) -> bool
+    ensures { λ r. ⌜ has-jumps e ≡ r ⌝ }
+{
+    e.t != e.f
+}
+
+// ---- a word's field in place
+
+pub fn set_a_at(code: &mut [u32], pc: usize, a: usize)
+    ensures { λ _. ⌜ set (now (code .entry)) pc (setAOf (word (now (code .entry)) pc) a) ≡ now (code .exit) ⌝ }
+{
+    let i = Instruction {
+        raw: word_at(code, pc),
+    };
+    let changed = i.set_a((a % 256) as u32);
+    put_word(code, pc, changed.raw);
+}
+
+pub fn set_b_at(code: &mut [u32], pc: usize, b: u32)
+    ensures { λ _. ⌜ set (now (code .entry)) pc (setBOf (word (now (code .entry)) pc) b) ≡ now (code .exit) ⌝ }
+{
+    let i = Instruction {
+        raw: word_at(code, pc),
+    };
+    let changed = i.set_b(b);
+    put_word(code, pc, changed.raw);
+}
+
+pub fn set_c_at(code: &mut [u32], pc: usize, c: u32)
+    ensures { λ _. ⌜ set (now (code .entry)) pc (setCOf (word (now (code .entry)) pc) c) ≡ now (code .exit) ⌝ }
+{
+    let i = Instruction {
+        raw: word_at(code, pc),
+    };
+    let changed = i.set_c(c);
+    put_word(code, pc, changed.raw);
+}
+
+// ---- variables
+
+// Of `discharge_vars`: a global.
+fn discharge_global(code: &mut [u32], lines: &mut [u32], st: State, e: ExprContext) -> Described
+    ensures { λ r. ⌜ ((ks vs p : List ℕ) → discharge-kind Global e st (bufs (now (code .entry)) (now (lines .entry)) ks vs p) ≡ describedIs r (bufs (now (code .exit)) (now (lines .exit)) ks vs p)) ⌝ }
+{
+    let answer = emit_abx(code, lines, st, OpCode::GetGlobal, 0, e.info);
+    match answer {
+        Given::Done(s, pc) => Described::Done(s, with_kind(e, ExprKind::Relocable, pc)),
+        Given::Refused(k) => Described::Refused(k),
+    }
+}
+
+// An indexed value: the key's register and the table's are free again.
+fn discharge_indexed(code: &mut [u32], lines: &mut [u32], st: State, e: ExprContext) -> Described
+    ensures { λ r. ⌜ ((ks vs p : List ℕ) → discharge-kind Indexed e st (bufs (now (code .entry)) (now (lines .entry)) ks vs p) ≡ describedIs r (bufs (now (code .exit)) (now (lines .exit)) ks vs p)) ⌝ }
+{
+    let s1 = free_reg(st, e.aux);
+    let s2 = free_reg(s1, e.info);
+    let answer = emit_abc(code, lines, s2, OpCode::GetTable, 0, e.info, e.aux);
+    match answer {
+        Given::Done(s, pc) => Described::Done(s, with_kind(e, ExprKind::Relocable, pc)),
+        Given::Refused(k) => Described::Refused(k),
+    }
+}
+
+// `set_one_ret` of a call.
+fn one_result(code: &mut [u32], e: ExprContext) -> ExprContext
+    ensures { λ r. ⌜ ((s : State) (ls ks vs p : List ℕ) → discharge-kind Call e s (bufs (now (code .entry)) ls ks vs p) ≡ done r s (bufs (now (code .exit)) ls ks vs p)) ⌝ }
+{
+    set_c_at(code, e.info, 2);
+    let i = Instruction {
+        raw: word_at(code, e.info),
+    };
+    with_kind(e, ExprKind::NonReloc, i.a() as usize)
+}
+
+// And of a vararg.
+fn one_vararg(code: &mut [u32], e: ExprContext) -> ExprContext
+    ensures { λ r. ⌜ ((s : State) (ls ks vs p : List ℕ) → discharge-kind VarArg e s (bufs (now (code .entry)) ls ks vs p) ≡ done r s (bufs (now (code .exit)) ls ks vs p)) ⌝ }
+{
+    set_b_at(code, e.info, 2);
+    with_kind(e, ExprKind::Relocable, e.info)
+}
+
+// A variable, an indexed value, a call or a vararg becomes a value.
+pub fn discharge_vars(code: &mut [u32], lines: &mut [u32], st: State, e: ExprContext) -> Described
+    ensures { λ r. ⌜ ((ks vs p : List ℕ) → discharge-vars e st (bufs (now (code .entry)) (now (lines .entry)) ks vs p) ≡ describedIs r (bufs (now (code .exit)) (now (lines .exit)) ks vs p)) ⌝ }
+{
+    if is_kind(e, ExprKind::Local) {
+        return Described::Done(st, with_kind(e, ExprKind::NonReloc, e.info));
+    }
+    if is_kind(e, ExprKind::Global) {
+        return discharge_global(code, lines, st, e);
+    }
+    if is_kind(e, ExprKind::Indexed) {
+        return discharge_indexed(code, lines, st, e);
+    }
+    if is_kind(e, ExprKind::Call) {
+        return Described::Done(st, one_result(code, e));
+    }
+    if is_kind(e, ExprKind::VarArg) {
+        return Described::Done(st, one_vararg(code, e));
+    }
+    Described::Done(st, e)
+}
+
+// The register of a value in one is free again.
+pub fn free_expr(st: State, e: ExprContext) -> State
+    ensures { λ r. ⌜ ((m : Buffers) → free-expr e st m ≡ done tt r m) ⌝ }
+{
+    if is_kind(e, ExprKind::NonReloc) {
+        return free_reg(st, e.info);
+    }
+    st
+}
+
+// ---- constants
+
+fn with_table(st: State, table: Table) -> State
+    ensures { λ r. ⌜ with-table table st ≡ r ⌝ }
+{
+    State {
+        at: st.at,
+        line: st.line,
+        pc: st.pc,
+        table,
+        active: st.active,
+        free: st.free,
+        frame: st.frame,
+        jpc: st.jpc,
+        label: st.label,
+    }
+}
+
+// The index of a constant that needs no chunk.
+pub fn own_constant(
+    kinds: &mut [u8],
+    values: &mut [u64],
+    pool: &mut [u8],
+    st: State,
+    v: Val,
+) -> Given
+    ensures { λ r. ⌜ ((cs ls : List ℕ) → add-constant [] v st (bufs cs ls (now (kinds .entry)) (now (values .entry)) (now (pool .entry))) ≡ givenIs r (bufs cs ls (now (kinds .exit)) (now (values .exit)) (now (pool .exit)))) ⌝ }
+{
+    let none = b"";
+    let table = st.table;
+    let answer = add_constant(kinds, values, pool, none, table, v);
+    match answer {
+        Added::At(i, t) => Given::Done(with_table(st, t), i),
+        Added::Refused(k) => Given::Refused(k),
+    }
+}
+
+pub fn number_constant(
+    kinds: &mut [u8],
+    values: &mut [u64],
+    pool: &mut [u8],
+    st: State,
+    e: ExprContext,
+) -> Given
+    ensures { λ r. ⌜ ((cs ls : List ℕ) → number-constant e st (bufs cs ls (now (kinds .entry)) (now (values .entry)) (now (pool .entry))) ≡ givenIs r (bufs cs ls (now (kinds .exit)) (now (values .exit)) (now (pool .exit)))) ⌝ }
+{
+    let v = Val::Number {
+        value: e.number,
+        bits: e.bits,
+    };
+    own_constant(kinds, values, pool, st, v)
+}
+
+// ---- to a register
+
+// The descriptor is in the register, once the word that brings it there is emitted.
+fn loaded(answer: Given, e: ExprContext, reg: usize) -> Described
+    ensures { λ r. ⌜ ((m : Buffers) → andThen (givenIs answer m) (put e reg) ≡ describedIs r m) ⌝ }
+{
+    match answer {
+        Given::Done(s, _) => Described::Done(s, with_kind(e, ExprKind::NonReloc, reg)),
+        Given::Refused(k) => Described::Refused(k),
+    }
+}
+
+fn load_nil(code: &mut [u32], lines: &mut [u32], st: State, e: ExprContext, reg: usize) -> Described
+    ensures { λ r. ⌜ ((ks vs p : List ℕ) → load-kind Nil e reg st (bufs (now (code .entry)) (now (lines .entry)) ks vs p) ≡ describedIs r (bufs (now (code .exit)) (now (lines .exit)) ks vs p)) ⌝ }
+{
+    let answer = emit_nil(code, lines, st, reg);
+    match answer {
+        Stepped::Done(s) => Described::Done(s, with_kind(e, ExprKind::NonReloc, reg)),
+        Stepped::Refused(k) => Described::Refused(k),
+    }
+}
+
+// A value that is in a register moves to another.
+fn load_moved(
+    code: &mut [u32],
+    lines: &mut [u32],
+    st: State,
+    e: ExprContext,
+    reg: usize,
+) -> Described
+    ensures { λ r. ⌜ ((ks vs p : List ℕ) → load-kind NonReloc e reg st (bufs (now (code .entry)) (now (lines .entry)) ks vs p) ≡ describedIs r (bufs (now (code .exit)) (now (lines .exit)) ks vs p)) ⌝ }
+{
+    if reg == e.info {
+        return Described::Done(st, with_kind(e, ExprKind::NonReloc, reg));
+    }
+    let answer = emit_abc(code, lines, st, OpCode::Move, reg, e.info, 0);
+    loaded(answer, e, reg)
+}
+
+// A value goes to a register, unless it is a number.
+fn load_other(
+    code: &mut [u32],
+    lines: &mut [u32],
+    st: State,
+    e: ExprContext,
+    reg: usize,
+) -> Described
+    ensures { λ r. ⌜ (isKind KNum e ≡ false → (ks vs p : List ℕ) → load-kind (e .kind) e reg st (bufs (now (code .entry)) (now (lines .entry)) ks vs p) ≡ describedIs r (bufs (now (code .exit)) (now (lines .exit)) ks vs p)) ⌝ }
+{
+    if is_kind(e, ExprKind::Nil) {
+        return load_nil(code, lines, st, e, reg);
+    }
+    if is_kind(e, ExprKind::True) {
+        let answer = emit_abc(code, lines, st, OpCode::LoadBool, reg, 1, 0);
+        return loaded(answer, e, reg);
+    }
+    if is_kind(e, ExprKind::False) {
+        let answer = emit_abc(code, lines, st, OpCode::LoadBool, reg, 0, 0);
+        return loaded(answer, e, reg);
+    }
+    if is_kind(e, ExprKind::K) {
+        let answer = emit_abx(code, lines, st, OpCode::LoadK, reg, e.info);
+        return loaded(answer, e, reg);
+    }
+    if is_kind(e, ExprKind::Relocable) {
+        set_a_at(code, e.info, reg);
+        return Described::Done(st, with_kind(e, ExprKind::NonReloc, reg));
+    }
+    if is_kind(e, ExprKind::NonReloc) {
+        return load_moved(code, lines, st, e, reg);
+    }
+    Described::Done(st, e)
+}
+
+fn load_number(
+    code: &mut [u32],
+    lines: &mut [u32],
+    kinds: &mut [u8],
+    values: &mut [u64],
+    pool: &mut [u8],
+    st: State,
+    e: ExprContext,
+    reg: usize,
+) -> Described
+    ensures { λ r. ⌜ load-kind KNum e reg st (bufs (now (code .entry)) (now (lines .entry)) (now (kinds .entry)) (now (values .entry)) (now (pool .entry))) ≡ describedIs r (bufs (now (code .exit)) (now (lines .exit)) (now (kinds .exit)) (now (values .exit)) (now (pool .exit))) ⌝ }
+{
+    let found = number_constant(kinds, values, pool, st, e);
+    match found {
+        Given::Done(s, n) => {
+            let answer = emit_abx(code, lines, s, OpCode::LoadK, reg, n);
+            loaded(answer, e, reg)
+        }
+        Given::Refused(k) => Described::Refused(k),
+    }
+}
+
+fn load_kind(
+    code: &mut [u32],
+    lines: &mut [u32],
+    kinds: &mut [u8],
+    values: &mut [u64],
+    pool: &mut [u8],
+    st: State,
+    e: ExprContext,
+    reg: usize,
+) -> Described
+    ensures { λ r. ⌜ load-kind (e .kind) e reg st (bufs (now (code .entry)) (now (lines .entry)) (now (kinds .entry)) (now (values .entry)) (now (pool .entry))) ≡ describedIs r (bufs (now (code .exit)) (now (lines .exit)) (now (kinds .exit)) (now (values .exit)) (now (pool .exit))) ⌝ }
+{
+    if is_kind(e, ExprKind::KNum) {
+        return load_number(code, lines, kinds, values, pool, st, e, reg);
+    }
+    load_other(code, lines, st, e, reg)
+}
+
+pub fn discharge2reg(
+    code: &mut [u32],
+    lines: &mut [u32],
+    kinds: &mut [u8],
+    values: &mut [u64],
+    pool: &mut [u8],
+    st: State,
+    e: ExprContext,
+    reg: usize,
+) -> Described
+    ensures { λ r. ⌜ discharge2regOf e reg st (bufs (now (code .entry)) (now (lines .entry)) (now (kinds .entry)) (now (values .entry)) (now (pool .entry))) ≡ describedIs r (bufs (now (code .exit)) (now (lines .exit)) (now (kinds .exit)) (now (values .exit)) (now (pool .exit))) ⌝ }
+{
+    let answer = discharge_vars(code, lines, st, e);
+    match answer {
+        Described::Done(s, d) => load_kind(code, lines, kinds, values, pool, s, d, reg),
+        Described::Refused(k) => Described::Refused(k),
+    }
+}
+
+pub fn discharge2anyreg(
+    code: &mut [u32],
+    lines: &mut [u32],
+    kinds: &mut [u8],
+    values: &mut [u64],
+    pool: &mut [u8],
+    st: State,
+    e: ExprContext,
+) -> Described
+    ensures { λ r. ⌜ discharge2anyregOf e st (bufs (now (code .entry)) (now (lines .entry)) (now (kinds .entry)) (now (values .entry)) (now (pool .entry))) ≡ describedIs r (bufs (now (code .exit)) (now (lines .exit)) (now (kinds .exit)) (now (values .exit)) (now (pool .exit))) ⌝ }
+{
+    if is_kind(e, ExprKind::NonReloc) {
+        return Described::Done(st, e);
+    }
+    let answer = alloc_reg(st);
+    match answer {
+        Given::Done(s, reg) => discharge2reg(code, lines, kinds, values, pool, s, e, reg),
+        Given::Refused(k) => Described::Refused(k),
+    }
+}
+
+// ---- jumps that bring a value
+
+// The jumps of both lists land: those with a value at `last`, those without at `off` or `on`.
+fn land(code: &mut [u32], e: ExprContext, reg: usize, last: usize, off: usize, on: usize)
+    ensures { λ _. ⌜ ((s : State) (ls ks vs p : List ℕ) → landOf e reg last off on s (bufs (now (code .entry)) ls ks vs p) ≡ done tt s (bufs (now (code .exit)) ls ks vs p)) ⌝ }
+{
+    patch_list_aux(code, e.f, last, reg, off);
+    patch_list_aux(code, e.t, last, reg, on);
+}
+
+// The jump over both loads, for a value that falls through.
+fn jump_over(code: &mut [u32], lines: &mut [u32], st: State, e: ExprContext) -> Given
+    ensures { λ r. ⌜ ((ks vs p : List ℕ) → over-of e st (bufs (now (code .entry)) (now (lines .entry)) ks vs p) ≡ givenIs r (bufs (now (code .exit)) (now (lines .exit)) ks vs p)) ⌝ }
+{
+    if is_kind(e, ExprKind::Jmp) {
+        return Given::Done(st, 0);
+    }
+    emit_jump(code, lines, st)
+}
+
+// The load of true, once that of false is there.
+fn load_true(
+    code: &mut [u32],
+    lines: &mut [u32],
+    st: State,
+    e: ExprContext,
+    reg: usize,
+    over: usize,
+    off: usize,
+) -> Stepped
+    ensures { λ r. ⌜ ((ks vs p : List ℕ) → load-yes e reg over off st (bufs (now (code .entry)) (now (lines .entry)) ks vs p) ≡ steppedIs r (bufs (now (code .exit)) (now (lines .exit)) ks vs p)) ⌝ }
+{
+    let answer = code_label(code, lines, st, reg, 1, 0);
+    match answer {
+        Given::Done(s, on) => {
+            let here = patch_to_here(code, s, over);
+            land(code, e, reg, here.pc, off, on);
+            Stepped::Done(get_label(here))
+        }
+        Given::Refused(k) => Stepped::Refused(k),
+    }
+}
+
+// The loads of false and of true.
+fn load_false(
+    code: &mut [u32],
+    lines: &mut [u32],
+    st: State,
+    e: ExprContext,
+    reg: usize,
+    over: usize,
+) -> Stepped
+    ensures { λ r. ⌜ ((ks vs p : List ℕ) → load-no e reg over st (bufs (now (code .entry)) (now (lines .entry)) ks vs p) ≡ steppedIs r (bufs (now (code .exit)) (now (lines .exit)) ks vs p)) ⌝ }
+{
+    let answer = code_label(code, lines, st, reg, 0, 1);
+    match answer {
+        Given::Done(s, off) => load_true(code, lines, s, e, reg, over, off),
+        Given::Refused(k) => Stepped::Refused(k),
+    }
+}
+
+fn load_both(code: &mut [u32], lines: &mut [u32], st: State, e: ExprContext, reg: usize) -> Stepped
+    ensures { λ r. ⌜ ((ks vs p : List ℕ) → load-both e reg st (bufs (now (code .entry)) (now (lines .entry)) ks vs p) ≡ steppedIs r (bufs (now (code .exit)) (now (lines .exit)) ks vs p)) ⌝ }
+{
+    let answer = jump_over(code, lines, st, e);
+    match answer {
+        Given::Done(s, over) => load_false(code, lines, s, e, reg, over),
+        Given::Refused(k) => Stepped::Refused(k),
+    }
+}
+
+// Loads of false and true where some jump brings no value, and all jumps land.
+fn settle(code: &mut [u32], lines: &mut [u32], st: State, e: ExprContext, reg: usize) -> Stepped
+    ensures { λ r. ⌜ ((ks vs p : List ℕ) → settleOf e reg st (bufs (now (code .entry)) (now (lines .entry)) ks vs p) ≡ steppedIs r (bufs (now (code .exit)) (now (lines .exit)) ks vs p)) ⌝ }
+{
+    if need_value(code, e.t) {
+        return load_both(code, lines, st, e, reg);
+    }
+    if need_value(code, e.f) {
+        return load_both(code, lines, st, e, reg);
+    }
+    land(code, e, reg, st.pc, st.pc, st.pc);
+    Stepped::Done(get_label(st))
+}
+
+// A comparison's own jump joins the list of those that are true.
+fn join_jump(code: &mut [u32], e: ExprContext) -> ExprContext
+    ensures { λ r. ⌜ ((s : State) (ls ks vs p : List ℕ) → join-jump e s (bufs (now (code .entry)) ls ks vs p) ≡ done r s (bufs (now (code .exit)) ls ks vs p)) ⌝ }
+{
+    if is_kind(e, ExprKind::Jmp) {
+        let t = concat_jumps(code, e.t, jump_list(e.info));
+        return with_jumps(e, t, e.f);
+    }
+    e
+}
+
+// The descriptor, once its jumps have landed.
+fn settled(answer: Stepped, e: ExprContext) -> Described
+    ensures { λ r. ⌜ ((m : Buffers) → andThen (steppedIs answer m) (give e) ≡ describedIs r m) ⌝ }
+{
+    match answer {
+        Stepped::Done(s) => Described::Done(s, e),
+        Stepped::Refused(k) => Described::Refused(k),
+    }
+}
+
+// A value that was brought to the register, and the values that jumps bring there.
+fn place(code: &mut [u32], lines: &mut [u32], st: State, e: ExprContext, reg: usize) -> Described
+    ensures { λ r. ⌜ ((ks vs p : List ℕ) → placed e reg st (bufs (now (code .entry)) (now (lines .entry)) ks vs p) ≡ describedIs r (bufs (now (code .exit)) (now (lines .exit)) ks vs p)) ⌝ }
+{
+    let d = join_jump(code, e);
+    let bare = with_jumps(d, 0, 0);
+    let there = with_kind(bare, ExprKind::NonReloc, reg);
+    if has_jumps(d) {
+        let answer = settle(code, lines, st, d, reg);
+        return settled(answer, there);
+    }
+    Described::Done(st, there)
+}
+
+pub fn exp2reg(
+    code: &mut [u32],
+    lines: &mut [u32],
+    kinds: &mut [u8],
+    values: &mut [u64],
+    pool: &mut [u8],
+    st: State,
+    e: ExprContext,
+    reg: usize,
+) -> Described
+    ensures { λ r. ⌜ exp2regOf e reg st (bufs (now (code .entry)) (now (lines .entry)) (now (kinds .entry)) (now (values .entry)) (now (pool .entry))) ≡ describedIs r (bufs (now (code .exit)) (now (lines .exit)) (now (kinds .exit)) (now (values .exit)) (now (pool .exit))) ⌝ }
+{
+    let answer = discharge2reg(code, lines, kinds, values, pool, st, e, reg);
+    match answer {
+        Described::Done(s, d) => place(code, lines, s, d, reg),
+        Described::Refused(k) => Described::Refused(k),
+    }
+}
+
+// ---- to the next register, to any, and as an operand
+
+// A value goes to the next register.
+fn next_reg(
+    code: &mut [u32],
+    lines: &mut [u32],
+    kinds: &mut [u8],
+    values: &mut [u64],
+    pool: &mut [u8],
+    st: State,
+    e: ExprContext,
+) -> Described
+    ensures { λ r. ⌜ next-of e st (bufs (now (code .entry)) (now (lines .entry)) (now (kinds .entry)) (now (values .entry)) (now (pool .entry))) ≡ describedIs r (bufs (now (code .exit)) (now (lines .exit)) (now (kinds .exit)) (now (values .exit)) (now (pool .exit))) ⌝ }
+{
+    let freed = free_expr(st, e);
+    let answer = alloc_reg(freed);
+    match answer {
+        Given::Done(s, reg) => exp2reg(code, lines, kinds, values, pool, s, e, reg),
+        Given::Refused(k) => Described::Refused(k),
+    }
+}
+
+pub fn exp2nextreg(
+    code: &mut [u32],
+    lines: &mut [u32],
+    kinds: &mut [u8],
+    values: &mut [u64],
+    pool: &mut [u8],
+    st: State,
+    e: ExprContext,
+) -> Described
+    ensures { λ r. ⌜ exp2nextregOf e st (bufs (now (code .entry)) (now (lines .entry)) (now (kinds .entry)) (now (values .entry)) (now (pool .entry))) ≡ describedIs r (bufs (now (code .exit)) (now (lines .exit)) (now (kinds .exit)) (now (values .exit)) (now (pool .exit))) ⌝ }
+{
+    let answer = discharge_vars(code, lines, st, e);
+    match answer {
+        Described::Done(s, d) => next_reg(code, lines, kinds, values, pool, s, d),
+        Described::Refused(k) => Described::Refused(k),
+    }
+}
+
+// A value goes to a register, unless it is in one and has no jumps.
+fn any_reg(
+    code: &mut [u32],
+    lines: &mut [u32],
+    kinds: &mut [u8],
+    values: &mut [u64],
+    pool: &mut [u8],
+    st: State,
+    e: ExprContext,
+) -> Described
+    ensures { λ r. ⌜ any-of e st (bufs (now (code .entry)) (now (lines .entry)) (now (kinds .entry)) (now (values .entry)) (now (pool .entry))) ≡ describedIs r (bufs (now (code .exit)) (now (lines .exit)) (now (kinds .exit)) (now (values .exit)) (now (pool .exit))) ⌝ }
+{
+    if is_kind(e, ExprKind::NonReloc) {
+        if has_jumps(e) {
+            if st.active <= e.info {
+                return exp2reg(code, lines, kinds, values, pool, st, e, e.info);
+            }
+            return exp2nextreg(code, lines, kinds, values, pool, st, e);
+        }
+        return Described::Done(st, e);
+    }
+    exp2nextreg(code, lines, kinds, values, pool, st, e)
+}
+
+// The register is then the descriptor's info.
+pub fn exp2anyreg(
+    code: &mut [u32],
+    lines: &mut [u32],
+    kinds: &mut [u8],
+    values: &mut [u64],
+    pool: &mut [u8],
+    st: State,
+    e: ExprContext,
+) -> Described
+    ensures { λ r. ⌜ exp2anyregOf e st (bufs (now (code .entry)) (now (lines .entry)) (now (kinds .entry)) (now (values .entry)) (now (pool .entry))) ≡ describedIs r (bufs (now (code .exit)) (now (lines .exit)) (now (kinds .exit)) (now (values .exit)) (now (pool .exit))) ⌝ }
+{
+    let answer = discharge_vars(code, lines, st, e);
+    match answer {
+        Described::Done(s, d) => any_reg(code, lines, kinds, values, pool, s, d),
+        Described::Refused(k) => Described::Refused(k),
+    }
+}
+
+pub fn exp2val(
+    code: &mut [u32],
+    lines: &mut [u32],
+    kinds: &mut [u8],
+    values: &mut [u64],
+    pool: &mut [u8],
+    st: State,
+    e: ExprContext,
+) -> Described
+    ensures { λ r. ⌜ exp2valOf e st (bufs (now (code .entry)) (now (lines .entry)) (now (kinds .entry)) (now (values .entry)) (now (pool .entry))) ≡ describedIs r (bufs (now (code .exit)) (now (lines .exit)) (now (kinds .exit)) (now (values .exit)) (now (pool .exit))) ⌝ }
+{
+    if has_jumps(e) {
+        return exp2anyreg(code, lines, kinds, values, pool, st, e);
+    }
+    discharge_vars(code, lines, st, e)
+}
+
+// The descriptor as the constant that was given.
+fn as_constant(answer: Given, e: ExprContext) -> Described
+    ensures { λ r. ⌜ ((m : Buffers) → andThen (givenIs answer m) (constant-of e) ≡ describedIs r m) ⌝ }
+{
+    match answer {
+        Given::Done(s, k) => Described::Done(s, with_kind(e, ExprKind::K, k)),
+        Given::Refused(k) => Described::Refused(k),
+    }
+}
+
+// Nil, true or false as a constant, only while the table has at most 255 entries.
+fn small(
+    code: &mut [u32],
+    lines: &mut [u32],
+    kinds: &mut [u8],
+    values: &mut [u64],
+    pool: &mut [u8],
+    st: State,
+    e: ExprContext,
+    v: Val,
+) -> Described
+    ensures { λ r. ⌜ smallOf e (add-constant [] v) st (bufs (now (code .entry)) (now (lines .entry)) (now (kinds .entry)) (now (values .entry)) (now (pool .entry))) ≡ describedIs r (bufs (now (code .exit)) (now (lines .exit)) (now (kinds .exit)) (now (values .exit)) (now (pool .exit))) ⌝ }
+{
+    let table = st.table;
+    if table.count <= 255 {
+        let answer = own_constant(kinds, values, pool, st, v);
+        return as_constant(answer, e);
+    }
+    exp2anyreg(code, lines, kinds, values, pool, st, e)
+}
+
+// A constant above 255 goes to a register.
+fn near(
+    code: &mut [u32],
+    lines: &mut [u32],
+    kinds: &mut [u8],
+    values: &mut [u64],
+    pool: &mut [u8],
+    st: State,
+    e: ExprContext,
+    k: usize,
+) -> Described
+    ensures { λ r. ⌜ nearOf e k st (bufs (now (code .entry)) (now (lines .entry)) (now (kinds .entry)) (now (values .entry)) (now (pool .entry))) ≡ describedIs r (bufs (now (code .exit)) (now (lines .exit)) (now (kinds .exit)) (now (values .exit)) (now (pool .exit))) ⌝ }
+{
+    if k <= 255 {
+        return Described::Done(st, with_kind(e, ExprKind::K, k));
+    }
+    exp2anyreg(code, lines, kinds, values, pool, st, e)
+}
+
+// A number as an operand.
+fn rk_number(
+    code: &mut [u32],
+    lines: &mut [u32],
+    kinds: &mut [u8],
+    values: &mut [u64],
+    pool: &mut [u8],
+    st: State,
+    e: ExprContext,
+) -> Described
+    ensures { λ r. ⌜ rk-kind KNum e st (bufs (now (code .entry)) (now (lines .entry)) (now (kinds .entry)) (now (values .entry)) (now (pool .entry))) ≡ describedIs r (bufs (now (code .exit)) (now (lines .exit)) (now (kinds .exit)) (now (values .exit)) (now (pool .exit))) ⌝ }
+{
+    let answer = number_constant(kinds, values, pool, st, e);
+    match answer {
+        Given::Done(s, n) => near(code, lines, kinds, values, pool, s, e, n),
+        Given::Refused(k) => Described::Refused(k),
+    }
+}
+
+// A value as an operand.
+fn rk_kind(
+    code: &mut [u32],
+    lines: &mut [u32],
+    kinds: &mut [u8],
+    values: &mut [u64],
+    pool: &mut [u8],
+    st: State,
+    e: ExprContext,
+) -> Described
+    ensures { λ r. ⌜ rk-kind (e .kind) e st (bufs (now (code .entry)) (now (lines .entry)) (now (kinds .entry)) (now (values .entry)) (now (pool .entry))) ≡ describedIs r (bufs (now (code .exit)) (now (lines .exit)) (now (kinds .exit)) (now (values .exit)) (now (pool .exit))) ⌝ }
+{
+    if is_kind(e, ExprKind::Nil) {
+        return small(code, lines, kinds, values, pool, st, e, Val::Nil);
+    }
+    if is_kind(e, ExprKind::True) {
+        return small(code, lines, kinds, values, pool, st, e, Val::Truth(true));
+    }
+    if is_kind(e, ExprKind::False) {
+        return small(code, lines, kinds, values, pool, st, e, Val::Truth(false));
+    }
+    if is_kind(e, ExprKind::K) {
+        return near(code, lines, kinds, values, pool, st, e, e.info);
+    }
+    if is_kind(e, ExprKind::KNum) {
+        return rk_number(code, lines, kinds, values, pool, st, e);
+    }
+    exp2anyreg(code, lines, kinds, values, pool, st, e)
+}
+
+// A constant up to 255, or a register.
+pub fn exp2rk(
+    code: &mut [u32],
+    lines: &mut [u32],
+    kinds: &mut [u8],
+    values: &mut [u64],
+    pool: &mut [u8],
+    st: State,
+    e: ExprContext,
+) -> Described
+    ensures { λ r. ⌜ exp2rkOf e st (bufs (now (code .entry)) (now (lines .entry)) (now (kinds .entry)) (now (values .entry)) (now (pool .entry))) ≡ describedIs r (bufs (now (code .exit)) (now (lines .exit)) (now (kinds .exit)) (now (values .exit)) (now (pool .exit))) ⌝ }
+{
+    let answer = exp2val(code, lines, kinds, values, pool, st, e);
+    match answer {
+        Described::Done(s, d) => rk_kind(code, lines, kinds, values, pool, s, d),
+        Described::Refused(k) => Described::Refused(k),
+    }
+}
+
+// The operand that it then is.
+pub fn rk(e: ExprContext) -> usize
+    ensures { λ r. ⌜ rkOf e ≡ r ⌝ }
+{
+    if is_kind(e, ExprKind::K) {
+        return e.info % 256 + 256;
+    }
+    e.info
+}
