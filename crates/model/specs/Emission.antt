@@ -51,7 +51,7 @@ discharge-jpc = do
   change-words (λ code. patch-list-aux (length code) code (s .jpc) (s .pc) noReg (s .pc))
   change (with-jpc 0)
 
--- no word is left: refusal 13
+-- no word is left: refusal 13, a limit that the Rust lacks (difference 5)
 abbrev pub no-room : State → Buffers → Bool
 no-room s m = leb (length (m .code)) (s .pc) || (leb (length (m .lines)) (s .pc) || leb maxWords (s .pc))
 
@@ -187,6 +187,6 @@ keep (added.Refused k) s m = refused k m
 abbrev pub stored-in : State → Buffers → Out → Result ℕ
 stored-in s m o = keep (o .answer) s (record { code = m .code; lines = m .lines; kinds = o .kinds; values = o .values; pool = o .pool })
 
--- `add_constant`, `string_constant`, `nil_constant`: the constant's index; refusals 11 and 12. The text of a string lies in the chunk
+-- `add_constant`, `string_constant`, `nil_constant`: the constant's index; refusals 11 and 12, for lent buffers that the Rust lacks (difference 5). The text of a string lies in the chunk
 unfoldable pub add-constant : List ℕ → Val → Step ℕ
 add-constant chunk v s m = stored-in s m (addedTo chunk (s .table) v (m .kinds) (m .values) (m .pool))

@@ -78,7 +78,7 @@ abbrev pub with-header : Sizes → HeaderRead → (Header → Out) → Out
 with-header z (header.Header h) f = f h
 with-header z (header.Refused k) f = refusal-of z k
 
--- the lowering of a chunk that has the form, with these places: the scratch is tested first
+-- the lowering of a chunk that has the form, with these places: the scratch, which the Rust lacks (difference 5), is tested first
 unfoldable pub lower-formed : Sizes → List ℕ → List ℕ → Out
 lower-formed z chunk places =
     elim (leb (length places) (z .scratch)) [
