@@ -2,7 +2,7 @@
 # at.py LTS PROOF [PREFIX] < SPEC : answer needs by templates.
 # SPEC: 'use ..' lines go on top; '%%' .. '%%' is a block of lemmas put behind the use lines;
 # 'NEED [unf f g] = template' (continuation lines allowed), NEED may be an fnmatch pattern; first match wins.
-# In a template @thing is the path to the place that has `thing`, so @byte-at.ensures; @START is the entry record; @@ all facts of the path, oldest first.
+# In a template @@kept stands for the `.kept` of every call that was lent a slice. @thing is the path to the place that has `thing`, so @byte-at.ensures; @START is the entry record; @@ all facts of the path, oldest first.
 # Paths deeper than 2 are shared by let.
 import sys,re,subprocess,os,fnmatch
 lts,proof=sys.argv[1:3]; pref=sys.argv[3] if len(sys.argv)>3 else ''
@@ -44,7 +44,15 @@ def facts(n):
             k=own.get(th,'')
             if 'enum-known' in k or 'enum-told' in k: fs.append(f'@{th}.given.1')
     return fs
+def kept(n):
+    # the calls of the path that were lent a `&mut` slice, which is told of right behind the call: each says that the lengths stay
+    at={d:(th,f) for d,th,f in things(n)}
+    def told(d):
+        th,f=at.get(d-1,('',[]))
+        return f==['given'] and not re.search(r'-arg\d*$|slice-known|known-told',th)
+    return [f'@{th}.kept' for d,th,f in things(n) if f==[] and th!='START' and told(d)]
 def expand(n,t):
+    t=t.replace('@@kept',', '.join(kept(n)))
     t=t.replace('@@',', '.join(facts(n)))
     ds={}
     for d,th,f in things(n): ds.setdefault(th,d)

@@ -22,8 +22,9 @@ use Rattle.constants.specs.declared.Found.the-variants as Found-variants
 use Rattle.constants.specs.declared.Added.{Added}
 use Rattle.constants.specs.declared.Added.the-variants.{At, Refused}
 use Rattle.constants.specs.Entry.{Constant, part, constantOf, entryOf, holds}
+use Rattle.instructions.specs.Limits.{maxConstants}
 use Rattle.constants.specs.Table.{Out, out, find, full, stored, storedText, append, added}
-use Rattle.constants.specs.Laws.{holds-true, holds-false, find-at, find-nothing, not-full, added-there, added-full, added-new}
+use Rattle.constants.specs.Laws.{holds-true, holds-false, find-at, find-nothing, not-full, not-most, added-there, added-full, added-new}
 
 -- ---- what is said
 
@@ -59,6 +60,8 @@ pub record Grew (chunk : List ℕ) (t : Table) (v : Val) (ks ws pool : List ℕ)
   pub unchanged : (j : ℕ) → j < t .count → constantAt pool′ ks′ ws′ j ≡ constantAt pool ks ws j
   pub at-least : t .count ≤ t′ .count
   pub at-most : t′ .count ≤ t .count + 1
+  pub few : t .count ≤ maxConstants → t′ .count ≤ maxConstants
+  pub bytes : t .used ≤ t .count * 65535 → t′ .used ≤ t′ .count * 65535
 
 -- lengths are as before, and so is what lies behind the table's entries and behind its bytes
 pub record Kept (ks ws pool : List ℕ) (t′ : Table) (ks′ ws′ pool′ : List ℕ) : Type 0 where
@@ -114,13 +117,14 @@ entry-kept pool pool′ u (suc (suc (suc (suc (suc k))))) w e h = refl
 -- what makes it the constant v
 record Made (chunk : List ℕ) (t : Table) (v : Val) (pool : List ℕ) (k w : ℕ) (bytes : List ℕ) : Type 0 where
   pub fits : t .used + length bytes ≤ length pool
+  pub short : length bytes ≤ 65535
   pub inside : k ≡ 4 → Inside (t .used + length bytes) w
   pub is : entryOf (sets pool (t .used) bytes) k w ≡ some (constantOf chunk v)
 
 module _ (chunk : List ℕ) (t : Table) (v : Val) (ks ws pool : List ℕ) where
   -- what an answer says of the lists that come with it
   abbrev Right : Added → List ℕ → List ℕ → List ℕ → Type 0
-  Right (At i t′) ks′ ws′ pool′ = Kept ks ws pool t′ ks′ ws′ pool′ × (Good t ks ws pool → length pool < 2 ^ 48 → Short chunk v → Grew chunk t v ks ws pool i t′ ks′ ws′ pool′)
+  Right (At i t′) ks′ ws′ pool′ = Kept ks ws pool t′ ks′ ws′ pool′ × (Good t ks ws pool → t .used < 2 ^ 48 → Short chunk v → Grew chunk t v ks ws pool i t′ ks′ ws′ pool′)
   Right (Refused r) ks′ ws′ pool′ = (ks′ ≡ ks) × (ws′ ≡ ws) × (pool′ ≡ pool)
 
   abbrev RightOut : Out → Type 0
@@ -130,7 +134,7 @@ module _ (chunk : List ℕ) (t : Table) (v : Val) (ks ws pool : List ℕ) where
   right-found i e =
       let f = find-at (holds pool chunk v) (t .count) ks ws i e in (
         record { kinds-length = refl; values-length = refl; pool-length = refl; kinds-behind = λ j h. refl; values-behind = λ j h. refl; pool-behind = λ j h. refl },
-        λ g small short. record { good = g; below = f .below; there = holds-true pool chunk v (getD ks i 0) (getD ws i 0) (f .meets); unchanged = λ j h. refl; at-least = omega arith; at-most = omega arith },
+        λ g small short. record { good = g; below = f .below; there = holds-true pool chunk v (getD ks i 0) (getD ws i 0) (f .meets); unchanged = λ j h. refl; at-least = omega arith; at-most = omega arith; few = λ z. z; bytes = λ z. z },
       )
 
   module _ (k w : ℕ) (bytes : List ℕ) (nowhere : find (holds pool chunk v) (t .count) ks ws ≡ Nothing) (free : full (t .count) ks ws ≡ false) where
@@ -205,7 +209,7 @@ module _ (chunk : List ℕ) (t : Table) (v : Val) (ks ws pool : List ℕ) where
         differ = λ i j h l. differ⁺ j l i h;
       }
 
-    right-new : (Good t ks ws pool → length pool < 2 ^ 48 → Short chunk v → Made chunk t v pool k w bytes) → RightOut (stored t k w (length bytes) ks ws pool⁺)
+    right-new : (Good t ks ws pool → t .used < 2 ^ 48 → Short chunk v → Made chunk t v pool k w bytes) → RightOut (stored t k w (length bytes) ks ws pool⁺)
     right-new make = (
       new-kept,
       λ g small short.
@@ -217,6 +221,8 @@ module _ (chunk : List ℕ) (t : Table) (v : Val) (ks ws pool : List ℕ) where
             unchanged = old-entry g m;
             at-least = omega arith;
             at-most = omega arith;
+            few = λ z. omega (arith, not-most (t .count) ks ws free);
+            bytes = λ z. omega (arith, m .short);
           },
     )
 
@@ -241,15 +247,14 @@ right-text chunk t s n ks ws pool nowhere free true e =
     right-new chunk t (Text s n) ks ws pool 4 (t .used % 281474976710656 * 65536 + length (part chunk s n) % 65536) (part chunk s n) nowhere free
     (λ g small short.
     let h = leb-true (t .used + length (part chunk s n)) (length pool) e in
-    let small-start : t .used < 2 ^ 48 = omega (arith, h, small) in
-    let start = place-start (t .used) (length (part chunk s n)) small-start short in
-    let len = place-length (t .used) (length (part chunk s n)) small-start short in
-    record { fits = h; inside = λ q. omega (arith, start, len); is = rw (start, len, part-sets pool (t .used) (part chunk s n) h) })
+    let start = place-start (t .used) (length (part chunk s n)) small short in
+    let len = place-length (t .used) (length (part chunk s n)) small short in
+    record { fits = h; short = omega (arith, short); inside = λ q. omega (arith, start, len); is = rw (start, len, part-sets pool (t .used) (part chunk s n) h) })
 
 right-bare : (chunk : List ℕ) (t : Table) (v : Val) (ks ws pool : List ℕ) (k w : ℕ) → find (holds pool chunk v) (t .count) ks ws ≡ Nothing → full (t .count) ks ws ≡ false
     → (k ≡ 4 → ⊥) → entryOf pool k w ≡ some (constantOf chunk v) → RightOut chunk t v ks ws pool (stored t k w 0 ks ws pool)
 right-bare chunk t v ks ws pool k w nowhere free bare e =
-    right-new chunk t v ks ws pool k w [] nowhere free (λ g small short. record { fits = omega (arith, g .texts-fit); inside = λ q. absurd (bare q); is = e })
+    right-new chunk t v ks ws pool k w [] nowhere free (λ g small short. record { fits = omega (arith, g .texts-fit); short = omega arith; inside = λ q. absurd (bare q); is = e })
 
 right-append : (chunk : List ℕ) (t : Table) (v : Val) (ks ws pool : List ℕ) → find (holds pool chunk v) (t .count) ks ws ≡ Nothing → full (t .count) ks ws ≡ false
     → RightOut chunk t v ks ws pool (append chunk t v ks ws pool)
@@ -284,7 +289,7 @@ module _ (chunk : List ℕ) (t : Table) (v : Val) (ks ws pool : List ℕ) where
     kept-added = subst (RightOut chunk t v ks ws pool) e right-added .0
 
     -- a well-formed table stays one, and has the constant at the index
-    pub good-added : Good t ks ws pool → length pool < 2 ^ 48 → Short chunk v → Grew chunk t v ks ws pool i t′ ks′ ws′ pool′
+    pub good-added : Good t ks ws pool → t .used < 2 ^ 48 → Short chunk v → Grew chunk t v ks ws pool i t′ ks′ ws′ pool′
     good-added = subst (RightOut chunk t v ks ws pool) e right-added .1
 
 pub good-empty : (ks ws pool : List ℕ) → Good (record { count = 0; used = 0 }) ks ws pool
@@ -301,7 +306,7 @@ pub good-grown : {t : Table} {ks ws pool : List ℕ} → Grown t ks ws pool → 
 good-grown (empty ks ws pool h) = (good-empty ks ws pool, h)
 good-grown (grow {t} {ks} {ws} {pool} chunk v i {t′} {ks′} {ws′} {pool′} before short e) =
     let (g, small) = good-grown before in
-    (good-added chunk t v ks ws pool e g small short .good, rw (kept-added chunk t v ks ws pool e .pool-length) small)
+    (good-added chunk t v ks ws pool e g (omega (arith, g .texts-fit, small)) short .good, rw (kept-added chunk t v ks ws pool e .pool-length) small)
 
 -- no two entries are the same constant
 pub distinct : {t : Table} {ks ws pool : List ℕ} → Grown t ks ws pool → (i j : ℕ) → i < j → j < t .count → constantAt pool ks ws i ≡ constantAt pool ks ws j → ⊥

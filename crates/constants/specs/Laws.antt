@@ -16,6 +16,7 @@ use Rattle.constants.specs.declared.Added.the-variants as Added-variants
 use Rattle.refusals.specs.declared.Refusal.the-variants.{Constants}
 use Rattle.constants.specs.declared.Found.{Found}
 use Rattle.constants.specs.declared.Found.the-variants.{At, Nothing}
+use Rattle.instructions.specs.Limits.{maxConstants}
 use Rattle.constants.specs.Entry.{Constant, nil, truth, number, text, constantOf, entryOf, sameBytes, sameTruth, same, isConstant, holds}
 use Rattle.constants.specs.Table.{find, later, full, out, append, added}
 
@@ -193,6 +194,9 @@ pub not-full : (count : ℕ) (ks ws : List ℕ) → full count ks ws ≡ false �
 not-full count ks ws h =
     let (a, b) = or-false (leb (length ks) count) _ h in
     (leb-false (length ks) count a, leb-false (length ws) count (or-false (leb (length ws) count) _ b .0))
+
+pub not-most : (count : ℕ) (ks ws : List ℕ) → full count ks ws ≡ false → count < maxConstants
+not-most count ks ws h = leb-false maxConstants count (or-false (leb (length ws) count) _ (or-false (leb (length ks) count) _ h .1) .1)
 
 -- ---- the three ways of adding, by what the search and the test came to
 

@@ -1,5 +1,5 @@
 -- Discharging step by step: what a definition comes to once its first step's answer is known, as the code reads it. Assumes nothing.
-use Prim.Native.Nat.{ℕ, _+_, _%_, _≤_, _<_}
+use Prim.Native.Nat.{ℕ, _≤_, _<_}
 use mathlib.Core.Bool.{Bool, true, false, not, _||_}
 use mathlib.Core.List.{List, []}
 use mathlib.Core.Path.{_≡_, refl, sym, ap, subst, _∙_}
@@ -7,7 +7,7 @@ use lib.Dec.{eqb, leb}
 use lib.ListN.{length, set}
 use borrow.Author.Tests.{eq-eqb, ne-eqb, le-leb, lt-leb}
 use Rattle.refusals.specs.declared.Refusal.{Refusal}
-use Rattle.instructions.specs.Limits.{bitRk, maxIndexRk}
+use Rattle.instructions.specs.Limits.{maxIndexRk}
 use Rattle.instructions.specs.Word.{aOf, setAOf, setBOf, setCOf}
 use Rattle.instructions.specs.declared.OpCode.the-variants as op
 use Rattle.constants.specs.Table.{added, out}
@@ -25,7 +25,7 @@ use Rattle.model.specs.Steps.{Buffers, Step, Result, done, refused, andThen, sk
 use Rattle.model.specs.Descriptor.{is, jumps, has-jumps, isKind}
 use Rattle.model.specs.Jumps.{word, concat-jumps, linked, jump-list, need-value, patch-list-aux}
 use Rattle.model.specs.Emission.{concat, emit-jump, code-label, patch-to-here, get-label, emit-abc, emit-abx, emit-nil, alloc-reg, free-reg, with-table, add-constant}
-use Rattle.model.specs.Discharge.{discharge-kind, discharge-vars, free-expr, number-constant, load-kind, move, discharge2reg, discharge2anyreg, land, load-both, settle, join-jump, exp2reg, exp2nextreg, exp2anyreg, exp2val, small, near, rk-kind, exp2rk, rk}
+use Rattle.model.specs.Discharge.{discharge-kind, discharge-vars, free-expr, number-constant, load-kind, move, discharge2reg, discharge2anyreg, land, load-both, settle, join-jump, exp2reg, exp2nextreg, exp2anyreg, exp2val, small, near, rk-kind, exp2rk}
 use Rattle.emission.specs.Parts.{bufs}
 use Rattle.discharge.specs.Kinds.{kind-is, put, give, over-of, load-yes, load-no, placed, next-of, any-of, constant-of}
 
@@ -59,14 +59,6 @@ module _ (e : ExprContext) (s : State) (m : Buffers) where
     pub indexed-refused : {r : Refusal} {k : Buffers} → emit-abc op.GetTable 0 (e .info) (e .aux) b m ≡ refused r k → discharge-kind Indexed e s m ≡ refused r k
     unfolding discharge-kind andThen
     indexed-refused h = simp (discharge-kind, ha, hb, h)
-
-  pub freed : {t : State} → isKind NonReloc e ≡ true → free-reg (e .info) s m ≡ done tt t m → free-expr e s m ≡ done tt t m
-  unfolding free-expr
-  freed h f = ap (λ (b : Bool). branch b (free-reg (e .info)) skip s m) h ∙ f
-
-  pub not-freed : isKind NonReloc e ≡ false → free-expr e s m ≡ done tt s m
-  unfolding free-expr
-  not-freed h = ap (λ (b : Bool). branch b (free-reg (e .info)) skip s m) h
 
 module _ (e : ExprContext) (s : State) (code ls ks vs p : List ℕ) where
   pub call-is : {after : List ℕ} → set code (e .info) (setCOf (word code (e .info)) 2) ≡ after →
@@ -410,21 +402,21 @@ module _ (e : ExprContext) (s : State) (m : Buffers) where
     abbrev fitting : Step ExprContext
     fitting a k = andThen (constant a k) (constant-of e)
 
-    pub small-fits : {x : Result ℕ} {r : Result ExprContext} → s .table .count ≤ maxIndexRk → constant s m ≡ x → andThen x (constant-of e) ≡ r → small e constant s m ≡ r
+    pub small-fits : {x : Result ℕ} {r : Result ExprContext} → leb (s .table .count) maxIndexRk ≡ true → constant s m ≡ x → andThen x (constant-of e) ≡ r → small e constant s m ≡ r
     unfolding small andThen
-    small-fits l h q = ap (λ (b : Bool). branch b fitting (exp2anyreg e) s m) (le-leb (s .table .count) maxIndexRk l) ∙ ap (λ (y : Result ℕ). andThen y (constant-of e)) h ∙ q
+    small-fits l h q = ap (λ (b : Bool). branch b fitting (exp2anyreg e) s m) l ∙ ap (λ (y : Result ℕ). andThen y (constant-of e)) h ∙ q
 
-    pub small-not : maxIndexRk < s .table .count → small e constant s m ≡ exp2anyreg e s m
+    pub small-not : leb (s .table .count) maxIndexRk ≡ false → small e constant s m ≡ exp2anyreg e s m
     unfolding small andThen
-    small-not l = ap (λ (b : Bool). branch b fitting (exp2anyreg e) s m) (lt-leb (s .table .count) maxIndexRk l)
+    small-not l = ap (λ (b : Bool). branch b fitting (exp2anyreg e) s m) l
 
-  pub near-fits : (k : ℕ) → k ≤ maxIndexRk → near e k s m ≡ done (is K k e) s m
+  pub near-fits : (k : ℕ) → leb k maxIndexRk ≡ true → near e k s m ≡ done (is K k e) s m
   unfolding near
-  near-fits k l = ap (λ (b : Bool). branch b (constant-of e k) (exp2anyreg e) s m) (le-leb k maxIndexRk l)
+  near-fits k l = ap (λ (b : Bool). branch b (constant-of e k) (exp2anyreg e) s m) l
 
-  pub near-not : (k : ℕ) → maxIndexRk < k → near e k s m ≡ exp2anyreg e s m
+  pub near-not : (k : ℕ) → leb k maxIndexRk ≡ false → near e k s m ≡ exp2anyreg e s m
   unfolding near
-  near-not k l = ap (λ (b : Bool). branch b (constant-of e k) (exp2anyreg e) s m) (lt-leb k maxIndexRk l)
+  near-not k l = ap (λ (b : Bool). branch b (constant-of e k) (exp2anyreg e) s m) l
 
   pub rk-of : (k : ExprKind) {r : Result ExprContext} → isKind k e ≡ true → rk-kind k e s m ≡ r → rk-kind (e .kind) e s m ≡ r
   rk-of k h q = ap (λ (x : ExprKind). rk-kind x e s m) (kind-is k e h) ∙ q
@@ -477,13 +469,3 @@ rk-else Relocable e s m q a b c d f = refl
 rk-else NonReloc e s m q a b c d f = refl
 rk-else Call e s m q a b c d f = refl
 rk-else VarArg e s m q a b c d f = refl
-
-module _ (e : ExprContext) where
-  abbrev operand : Bool → ℕ
-  operand b = elim b [ true ↦ e .info % bitRk + bitRk | false ↦ e .info ]
-
-  pub rk-constant : isKind K e ≡ true → rk e ≡ e .info % bitRk + bitRk
-  rk-constant h = ap operand h
-
-  pub rk-register : isKind K e ≡ false → rk e ≡ e .info
-  rk-register h = ap operand h

@@ -9,10 +9,10 @@ ghost use Rattle.instructions.specs.Word.{setAOf, setBOf, setCOf};
 ghost use Rattle.model.specs.declared.ExprKind.the-variants.{Nil, KNum, Global, Indexed, NonReloc, Call, VarArg};
 ghost use Rattle.model.specs.declared.State.{State};
 ghost use Rattle.model.specs.Steps.{Buffers, done, andThen, steppedIs, givenIs, describedIs};
-ghost use Rattle.model.specs.Descriptor.{tagOf, isKind, is, jumps, has-jumps};
+ghost use Rattle.model.specs.Descriptor.{isKind, is, jumps, has-jumps};
 ghost use Rattle.model.specs.Jumps.{word};
 ghost use Rattle.model.specs.Emission.{with-table, add-constant};
-ghost use Rattle.model.specs.Discharge.{discharge-kind, discharge-vars, free-expr, number-constant, load-kind, discharge2reg as discharge2regOf, discharge2anyreg as discharge2anyregOf, land as landOf, load-both, settle as settleOf, join-jump, exp2reg as exp2regOf, exp2nextreg as exp2nextregOf, exp2anyreg as exp2anyregOf, exp2val as exp2valOf, small as smallOf, near as nearOf, rk-kind, exp2rk as exp2rkOf, rk as rkOf};
+ghost use Rattle.model.specs.Discharge.{discharge-kind, discharge-vars, number-constant, load-kind, discharge2reg as discharge2regOf, discharge2anyreg as discharge2anyregOf, land as landOf, load-both, settle as settleOf, join-jump, exp2reg as exp2regOf, exp2nextreg as exp2nextregOf, exp2anyreg as exp2anyregOf, exp2val as exp2valOf, small as smallOf, near as nearOf, rk-kind, exp2rk as exp2rkOf};
 ghost use Rattle.emission.specs.Parts.{bufs};
 ghost use Rattle.discharge.specs.Kinds.{put, give, over-of, load-yes, load-no, placed, next-of, any-of, constant-of};
 use constants::Added;
@@ -42,36 +42,11 @@ use model::ExprKind;
 use model::Given;
 use model::State;
 use model::Stepped;
+use operands::fits_rk;
+use operands::free_expr;
+use operands::is_kind;
 
 // ---- descriptors
-
-// The number of a kind.
-fn tag(kind: ExprKind) -> usize
-    ensures { λ r. ⌜ tagOf kind ≡ r ⌝ }
-{
-    match kind {
-        ExprKind::Nil => 0,
-        ExprKind::True => 1,
-        ExprKind::False => 2,
-        ExprKind::K => 3,
-        ExprKind::KNum => 4,
-        ExprKind::Local => 5,
-        ExprKind::Global => 6,
-        ExprKind::Indexed => 7,
-        ExprKind::Jmp => 8,
-        ExprKind::Relocable => 9,
-        ExprKind::NonReloc => 10,
-        ExprKind::Call => 11,
-        ExprKind::VarArg => 12,
-    }
-}
-
-pub fn is_kind(e: ExprContext, kind: ExprKind) -> bool
-    ensures { λ r. ⌜ isKind kind e ≡ r ⌝ }
-{
-    let own = e.kind;
-    tag(own) == tag(kind)
-}
 
 // The descriptor with another kind and info.
 pub fn with_kind(e: ExprContext, kind: ExprKind, info: usize) -> ExprContext
@@ -207,16 +182,6 @@ pub fn discharge_vars(code: &mut [u32], lines: &mut [u32], st: State, e: ExprCon
         return Described::Done(st, one_vararg(code, e));
     }
     Described::Done(st, e)
-}
-
-// The register of a value in one is free again.
-pub fn free_expr(st: State, e: ExprContext) -> State
-    ensures { λ r. ⌜ ((m : Buffers) → free-expr e st m ≡ done tt r m) ⌝ }
-{
-    if is_kind(e, ExprKind::NonReloc) {
-        return free_reg(st, e.info);
-    }
-    st
 }
 
 // ---- constants
@@ -689,7 +654,7 @@ fn small(
     ensures { λ r. ⌜ smallOf e (add-constant [] v) st (bufs (now (code .entry)) (now (lines .entry)) (now (kinds .entry)) (now (values .entry)) (now (pool .entry))) ≡ describedIs r (bufs (now (code .exit)) (now (lines .exit)) (now (kinds .exit)) (now (values .exit)) (now (pool .exit))) ⌝ }
 {
     let table = st.table;
-    if table.count <= 255 {
+    if fits_rk(table.count) {
         let answer = own_constant(kinds, values, pool, st, v);
         return as_constant(answer, e);
     }
@@ -709,7 +674,7 @@ fn near(
 ) -> Described
     ensures { λ r. ⌜ nearOf e k st (bufs (now (code .entry)) (now (lines .entry)) (now (kinds .entry)) (now (values .entry)) (now (pool .entry))) ≡ describedIs r (bufs (now (code .exit)) (now (lines .exit)) (now (kinds .exit)) (now (values .exit)) (now (pool .exit))) ⌝ }
 {
-    if k <= 255 {
+    if fits_rk(k) {
         return Described::Done(st, with_kind(e, ExprKind::K, k));
     }
     exp2anyreg(code, lines, kinds, values, pool, st, e)
@@ -781,14 +746,4 @@ pub fn exp2rk(
         Described::Done(s, d) => rk_kind(code, lines, kinds, values, pool, s, d),
         Described::Refused(k) => Described::Refused(k),
     }
-}
-
-// The operand that it then is.
-pub fn rk(e: ExprContext) -> usize
-    ensures { λ r. ⌜ rkOf e ≡ r ⌝ }
-{
-    if is_kind(e, ExprKind::K) {
-        return e.info % 256 + 256;
-    }
-    e.info
 }

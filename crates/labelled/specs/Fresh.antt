@@ -51,7 +51,7 @@ Under n (i ∷ c) = UnderI n i × Under n c
 abbrev pub Fresh : St → Type 0
 Fresh s = Under (s .nxt) (s .code)
 
-under-more : (n m : ℕ) → n ≤ m → (c : Code) → Under n c → Under m c
+pub under-more : (n m : ℕ) → n ≤ m → (c : Code) → Under n c → Under m c
 under-more n m l [] h = tt
 under-more n m l (pl w ∷ c) h = (tt, under-more n m l c (h .1))
 under-more n m l (br k (to p) ∷ c) h = (tt, under-more n m l c (h .1))
@@ -114,15 +114,15 @@ module _ (n : ℕ) (pos : 1 ≤ n) where
   abbrev U : St → Type 0
   U s = Under n (s .code)
 
-  flush-u : (s : St) → U s → U (flush s)
+  pub flush-u : (s : St) → U s → U (flush s)
   unfolding flush
   flush-u s h = under-edit n _ (under-one n 0 (land (size (s .code)) none (size (s .code))) tt) (s .code) h
 
-  push-u : (i : Instr) (s : St) → UnderI n i → U s → U (push i s)
+  pub push-u : (i : Instr) (s : St) → UnderI n i → U s → U (push i s)
   unfolding push
   push-u i s o h = (o, under-edit n _ (under-one n 0 (land (size (s .code)) none (size (s .code))) tt) (s .code) h)
 
-  jump-u : (m : ℕ) (s : St) → m < n → U s → U (emitJump m s)
+  pub jump-u : (m : ℕ) (s : St) → m < n → U s → U (emitJump m s)
   unfolding emitJump
   jump-u m s l h = (l, under-edit n _ (under-one n 0 (re m true) l) (s .code) h)
 
@@ -130,11 +130,11 @@ module _ (n : ℕ) (pos : 1 ≤ n) where
   unfolding relabel
   relabel-u a b s l h = under-edit n _ (under-one n a (re b false) l) (s .code) h
 
-  strip-u : (a : ℕ) (s : St) → a < n → U s → U (strip a s)
+  pub strip-u : (a : ℕ) (s : St) → a < n → U s → U (strip a s)
   unfolding strip
   strip-u a s l h = under-edit n _ (under-one n a (re a true) l) (s .code) h
 
-  here-u : (m : ℕ) (s : St) → U s → U (toHere m s)
+  pub here-u : (m : ℕ) (s : St) → U s → U (toHere m s)
   unfolding toHere
   here-u m s h = go (hit false m m (s .code))
     where
@@ -163,7 +163,7 @@ module _ (n : ℕ) (pos : 1 ≤ n) where
   load-u (knumber m) r s h = push-u (pl (setw r (val (number m)))) (addK (knumber m) s) tt h
   load-u (ktext x) r s h = push-u (pl (setw r (val (text x)))) s tt h
 
-  d2r-u : (k : K4) (t r : ℕ) (s : St) → t < n → U s → U (d2r k t r s)
+  pub d2r-u : (k : K4) (t r : ℕ) (s : St) → t < n → U s → U (d2r k t r s)
   unfolding d2r
   d2r-u (kc c) t r s l h = load-u c r s h
   d2r-u (kr u k) t r s l h = go (same r k)
@@ -193,11 +193,11 @@ module _ (n : ℕ) (pos : 1 ≤ n) where
   settle-u true true true j e r s l h = pair-u j (e .tl) (e .fl) r s h
   settle-u true true false j e r s l h = pair-u j (e .tl) (e .fl) r (emitJump j s) (jump-u j s l h)
 
-  onload-u : (c : Bool) (k : K4) (m : ℕ) (s : St) → m < n → U s → U (onLoad c k m s)
+  pub onload-u : (c : Bool) (k : K4) (m : ℕ) (s : St) → m < n → U s → U (onLoad c k m s)
   unfolding onLoad
   onload-u c k m s l h = push-u (br (tset (s .free) c) (lbl m)) (d2r k m (s .free) s) l (d2r-u k m (s .free) s l h)
 
-  onX-u : (c : Bool) (x : Ex) (m : ℕ) (s : St) → m < n → U s → U (onX c x m s)
+  pub onX-u : (c : Bool) (x : Ex) (m : ℕ) (s : St) → m < n → U s → U (onX c x m s)
   unfolding onX
   onX-u c (val v) m s l h = onload-u c (kx (val v)) m s l h
   onX-u c (cp r) m s l h = onload-u c (kx (cp r)) m s l h
@@ -210,12 +210,12 @@ module _ (n : ℕ) (pos : 1 ≤ n) where
   onX-u c (cat b k) m s l h = onload-u c (kx (cat b k)) m s l h
   onX-u c vfst m s l h = onload-u c (kx vfst) m s l h
 
-  goCon-u : (a b c : Bool) (v : Constant) (m : ℕ) (s : St) → m < n → U s → U (goCon a b c v m s)
+  pub goCon-u : (a b c : Bool) (v : Constant) (m : ℕ) (s : St) → m < n → U s → U (goCon a b c v m s)
   goCon-u false b c v m s l h = h
   goCon-u true true c v m s l h = jump-u m s l h
   goCon-u true false c v m s l h = onload-u c (kc v) m s l h
 
-  goJump-u : (c : Bool) (k : K4) (m : ℕ) (s : St) → m < n → U s → U (goJump c k m s)
+  pub goJump-u : (c : Bool) (k : K4) (m : ℕ) (s : St) → m < n → U s → U (goJump c k m s)
   unfolding goJump
   goJump-u c (kc v) m s l h = goCon-u (agrees (is-true (valueOf v)) c) (isBool v) c v m s l h
   goJump-u c (kr u r) m s l h = push-u (br (tset r c) (lbl m)) s l h
@@ -226,18 +226,18 @@ module _ (n : ℕ) (pos : 1 ≤ n) where
   unfolding goIf
   go-u c p l h = here-u (lab (not c) (p .de)) _ (goJump-u c (p .de .k4) (lab c (p .de)) (p .st) l h)
 
-  notS-u : (k : K4) (s : St) → U s → U (notS k s)
+  pub notS-u : (k : K4) (s : St) → U s → U (notS k s)
   unfolding notS
   notS-u (kc v) s h = h
   notS-u (kr u r) s h = flush-u s h
   notS-u (kx x) s h = d2r-u (kx x) 0 (s .free) s (omega nat) h
   notS-u (kj p c x y) s h = h
 
-  not-u : (p : Par4) → p .de .tl < n → p .de .fl < n → U (p .st) → U (codeNot p .st)
+  pub not-u : (p : Par4) → p .de .tl < n → p .de .fl < n → U (p .st) → U (codeNot p .st)
   unfolding codeNot
   not-u p l m h = strip-u (p .de .fl) (strip (p .de .tl) (notS (p .de .k4) (p .st))) m (strip-u (p .de .tl) (notS (p .de .k4) (p .st)) l (notS-u (p .de .k4) (p .st) h))
 
-  e2r-u : (e : Des4) (r : ℕ) (s : St) → e .tl < n → s .nxt < n → U s → U (e2r e r s)
+  pub e2r-u : (e : Des4) (r : ℕ) (s : St) → e .tl < n → s .nxt < n → U s → U (e2r e r s)
   unfolding e2r
   e2r-u e r s l m h = settle-u _ _ _ (d2r (e .k4) (e .tl) r s .nxt) e r (d2r (e .k4) (e .tl) r s) (omega (nat, d2r-nxt (e .k4) (e .tl) r s)) (d2r-u (e .k4) (e .tl) r s l h)
 
@@ -273,7 +273,7 @@ module _ (n : ℕ) (pos : 1 ≤ n) where
   at-least : (s : St) → On n s → 1 ≤ s .nxt
   at-least s o = omega (nat, o .up)
 
-  next-on : (p : Par4) → New4 n p → On n (nextreg p)
+  pub next-on : (p : Par4) → New4 n p → On n (nextreg p)
   next-on p o = record {
     up = omega (nat, o .on .up, next-nxt p);
     old = subst (λ m. Under m (nextreg p .code)) (sym (next-nxt p)) (next-code p (omega (nat, o .tl-old)) (under-more (p .st .nxt) (suc (p .st .nxt)) (omega nat) (p .st .code) (o .on .old)));
@@ -287,25 +287,25 @@ module _ (n : ℕ) (pos : 1 ≤ n) where
   any-on₁ false (kx x) p o = next-on p o
   any-on₁ false (kj c d x y) p o = next-on p o
 
-  any-on : (p : Par4) → New4 n p → On n (anyreg p .st)
+  pub any-on : (p : Par4) → New4 n p → On n (anyreg p .st)
   unfolding anyreg
   any-on p o = any-on₁ (hit false (p .de .tl) (p .de .fl) (p .st .code)) (p .de .k4) p o
 
-  add-on : (c : Constant) (s : St) → On n s → On n (addK c s)
+  pub add-on : (c : Constant) (s : St) → On n s → On n (addK c s)
   add-on c s o = record { up = o .up; old = o .old }
 
-  add-new : (c : Constant) (p : Par4) → New4 n p → New4 n (addP c p)
+  pub add-new : (c : Constant) (p : Par4) → New4 n p → New4 n (addP c p)
   add-new c p o = record { on = add-on c (p .st) (o .on); tl-new = o .tl-new; tl-old = o .tl-old; fl-new = o .fl-new; fl-old = o .fl-old }
 
-  con-on : (b : Bool) (c : Constant) (p : Par4) → New4 n p → On n (conRk b c p .st)
+  pub con-on : (b : Bool) (c : Constant) (p : Par4) → New4 n p → On n (conRk b c p .st)
   con-on true c p o = o .on
   con-on false c p o = any-on p o
 
-  small-on : (b : Bool) (c : Constant) (p : Par4) → New4 n p → On n (smallRk b c p .st)
+  pub small-on : (b : Bool) (c : Constant) (p : Par4) → New4 n p → On n (smallRk b c p .st)
   small-on true c p o = add-on c (p .st) (o .on)
   small-on false c p o = any-on p o
 
-  rkC-on : (c : Constant) (p : Par4) → New4 n p → On n (rkC c p .st)
+  pub rkC-on : (c : Constant) (p : Par4) → New4 n p → On n (rkC c p .st)
   unfolding rkC
   rkC-on knil p o = small-on (roomy (p .st .tab)) knil p o
   rkC-on (ktruth b) p o = small-on (roomy (p .st .tab)) (ktruth b) p o
@@ -320,36 +320,36 @@ module _ (n : ℕ) (pos : 1 ≤ n) where
   rk-on₁ false (kx x) p o = any-on p o
   rk-on₁ false (kj c d x y) p o = any-on p o
 
-  rk-on : (p : Par4) → New4 n p → On n (exp2rk p .st)
+  pub rk-on : (p : Par4) → New4 n p → On n (exp2rk p .st)
   unfolding exp2rk
   rk-on p o = rk-on₁ (hit false (p .de .tl) (p .de .fl) (p .st .code)) (p .de .k4) p o
 
   -- with the same next label
-  keep-on : (s u : St) → u .nxt ≡ s .nxt → On n s → Under (s .nxt) (u .code) → On n u
+  pub keep-on : (s u : St) → u .nxt ≡ s .nxt → On n s → Under (s .nxt) (u .code) → On n u
   keep-on s u e o h = record { up = omega (nat, e, o .up); old = subst (λ m. Under m (u .code)) (sym e) h }
 
-  flush-on : (s : St) → On n s → On n (flush s)
+  pub flush-on : (s : St) → On n s → On n (flush s)
   unfolding flush
   flush-on s o = record { up = o .up; old = flush-u (s .nxt) (at-least s o) s (o .old) }
 
-  push-on : (i : Instr) (s : St) → UnderI (s .nxt) i → On n s → On n (push i s)
+  pub push-on : (i : Instr) (s : St) → UnderI (s .nxt) i → On n s → On n (push i s)
   unfolding push
   push-on i s u o = record { up = o .up; old = push-u (s .nxt) (at-least s o) i s u (o .old) }
 
-  late-on : (b : Bool) (c : Constant) (s : St) → On n s → On n (late b c s .st)
+  pub late-on : (b : Bool) (c : Constant) (s : St) → On n s → On n (late b c s .st)
   unfolding push
   late-on true c s o = o
   late-on false c s o = let q = push-on (pl (setw (s .free) (val (valueOf c)))) s tt o in record { up = q .up; old = q .old }
 
-  lateOf-on : (m : Option ℕ) (x : RkS) (s : St) → On n s → On n (lateOf m x s .st)
+  pub lateOf-on : (m : Option ℕ) (x : RkS) (s : St) → On n s → On n (lateOf m x s .st)
   lateOf-on none x s o = o
   lateOf-on (some k) x s o = late-on (isNear (knumber k) (s .tab)) (knumber k) (addK (knumber k) s) (add-on (knumber k) s o)
 
-  right-on : (m : Option ℕ) (x : RkS) (p : Par4) → New4 n p → On n (rightFirst m x p .st)
+  pub right-on : (m : Option ℕ) (x : RkS) (p : Par4) → New4 n p → On n (rightFirst m x p .st)
   unfolding rightFirst
   right-on m x p o = lateOf-on m x (exp2rk p .st) (rk-on p o)
 
-  left-on : (m : Option ℕ) (x : RkS) (p : Par4) → New4 n p → On n (leftFirst m x p .st)
+  pub left-on : (m : Option ℕ) (x : RkS) (p : Par4) → New4 n p → On n (leftFirst m x p .st)
   unfolding leftFirst
   left-on none x p o = right-on none x p o
   left-on (some k) x p o = go (isNear (knumber k) (p .st .tab))
@@ -366,7 +366,7 @@ module _ (n : ℕ) (pos : 1 ≤ n) where
   go-on c p o = keep-on (p .st) (goIf c p) (goIf-nxt c p) (o .on) (go-u (p .st .nxt) (at-least (p .st) (o .on)) c p (lab-old c p o) (o .on .old))
 
   -- descriptors
-  fresh-new : (k : K) (m : ℕ) (s : St) → On n s → New n (fresh k m s)
+  pub fresh-new : (k : K) (m : ℕ) (s : St) → On n s → New n (fresh k m s)
   unfolding fresh
   fresh-new k m s o = record {
     on = record { up = omega (nat, o .up); old = under-more (s .nxt) (2 + s .nxt) (omega nat) (s .code) (o .old) };
@@ -376,7 +376,7 @@ module _ (n : ℕ) (pos : 1 ≤ n) where
     fl-old = omega nat;
   }
 
-  dv-on : (k : K) (s : St) → On n s → (dvS k s .nxt ≡ s .nxt) × On n (dvS k s)
+  pub dv-on : (k : K) (s : St) → On n s → (dvS k s .nxt ≡ s .nxt) × On n (dvS k s)
   unfolding dvS flush push
   dv-on (kd k) s o = (refl, o)
   dv-on (kl r) s o = (refl, o)
@@ -388,10 +388,10 @@ module _ (n : ℕ) (pos : 1 ≤ n) where
   pub dv-new : (p : Pair) → New n p → New4 n (dv p)
   dv-new p o = let d = dv-on (p .de .kind) (p .st) (o .on) in record { on = d .1; tl-new = o .tl-new; tl-old = omega (nat, o .tl-old, d .0); fl-new = o .fl-new; fl-old = omega (nat, o .fl-old, d .0) }
 
-  lift-new : (p : Par4) → New4 n p → New n (lift4 p)
+  pub lift-new : (p : Par4) → New4 n p → New n (lift4 p)
   lift-new p o = record { on = o .on; tl-new = o .tl-new; tl-old = o .tl-old; fl-new = o .fl-new; fl-old = o .fl-old }
 
-  not-new : (p : Par4) → New4 n p → New4 n (codeNot p)
+  pub not-new : (p : Par4) → New4 n p → New4 n (codeNot p)
   unfolding codeNot strip
   not-new p o = let e = not-nxt (p .de .k4) (p .st) in record {
     on = keep-on (p .st) (codeNot p .st) e (o .on) (not-u (p .st .nxt) (at-least (p .st) (o .on)) p (o .tl-old) (o .fl-old) (o .on .old));
@@ -401,7 +401,7 @@ module _ (n : ℕ) (pos : 1 ≤ n) where
     fl-old = omega (nat, o .tl-old, e);
   }
 
-  log-new : (c : Bool) (m : ℕ) (p : Par4) → New4 n p → New4 n (log₂ c m p)
+  pub log-new : (c : Bool) (m : ℕ) (p : Par4) → New4 n p → New4 n (log₂ c m p)
   unfolding log₂ relabel
   log-new c m p o = record {
     on = record { up = o .on .up; old = relabel-u (p .st .nxt) (at-least (p .st) (o .on)) m (lab c (p .de)) (p .st) (lab-old c p o) (o .on .old) };
@@ -411,28 +411,28 @@ module _ (n : ℕ) (pos : 1 ≤ n) where
     fl-old = o .fl-old;
   }
 
-  word-new : (k : K4) (f : ℕ) (s : St) → On n s → New n (fresh (kd k) f (flush s))
+  pub word-new : (k : K4) (f : ℕ) (s : St) → On n s → New n (fresh (kd k) f (flush s))
   word-new k f s o = fresh-new (kd k) f (flush s) (flush-on s o)
 
-  ari-new : (z : Fold) (a : Arith) (f : ℕ) (m : Option ℕ) (x : RkS) (p : Par4) → New4 n p → New n (ariJoin z a f m x p)
+  pub ari-new : (z : Fold) (a : Arith) (f : ℕ) (m : Option ℕ) (x : RkS) (p : Par4) → New4 n p → New n (ariJoin z a f m x p)
   unfolding ariJoin
   ari-new (Folded z) a f m x p o = fresh-new _ f (p .st) (o .on)
   ari-new Kept a f m x p o = word-new _ f (rightFirst m x p .st) (right-on m x p o)
 
-  cmp-new : (k : Kind) (c w : Bool) (f : ℕ) (m : Option ℕ) (x : RkS) (p : Par4) → New4 n p → New n (cmpJoin k c w f m x p)
+  pub cmp-new : (k : Kind) (c w : Bool) (f : ℕ) (m : Option ℕ) (x : RkS) (p : Par4) → New4 n p → New n (cmpJoin k c w f m x p)
   unfolding cmpJoin
   cmp-new k c w f m x p o = word-new _ f (leftFirst m x p .st) (left-on m x p o)
 
-  neg-new : (z : Fold) (f : ℕ) (p : Par4) → New4 n p → New n (negJoin z f p)
+  pub neg-new : (z : Fold) (f : ℕ) (p : Par4) → New4 n p → New n (negJoin z f p)
   unfolding negJoin
   neg-new (Folded z) f p o = fresh-new _ f (p .st) (o .on)
   neg-new Kept f p o = word-new _ f (anyreg p .st) (any-on p o)
 
-  len-new : (f : ℕ) (p : Par4) → New4 n p → New n (lenJoin f p)
+  pub len-new : (f : ℕ) (p : Par4) → New4 n p → New n (lenJoin f p)
   unfolding lenJoin
   len-new f p o = word-new _ f (anyreg p .st) (any-on p o)
 
-  catX-new : (x : Ex) (r : ℕ) (p : Par4) → New4 n p → New n (catX x r p)
+  pub catX-new : (x : Ex) (r : ℕ) (p : Par4) → New4 n p → New n (catX x r p)
   unfolding catX
   catX-new (val v) r p o = word-new (kx (cat r 1)) r (nextreg p) (next-on p o)
   catX-new (cp k) r p o = word-new (kx (cat r 1)) r (nextreg p) (next-on p o)
@@ -445,7 +445,7 @@ module _ (n : ℕ) (pos : 1 ≤ n) where
   catX-new (cat b k) r p o = fresh-new _ r (p .st) (o .on)
   catX-new vfst r p o = word-new (kx (cat r 1)) r (nextreg p) (next-on p o)
 
-  catK-new : (t : Bool) (k : K4) (r : ℕ) (p : Par4) → New4 n p → New n (catK t k r p)
+  pub catK-new : (t : Bool) (k : K4) (r : ℕ) (p : Par4) → New4 n p → New n (catK t k r p)
   unfolding catK
   catK-new true k r p o = word-new (kx (cat r 1)) r (nextreg p) (next-on p o)
   catK-new false (kc v) r p o = word-new (kx (cat r 1)) r (nextreg p) (next-on p o)
@@ -453,14 +453,14 @@ module _ (n : ℕ) (pos : 1 ≤ n) where
   catK-new false (kx x) r p o = catX-new x r p o
   catK-new false (kj a c x y) r p o = word-new (kx (cat r 1)) r (nextreg p) (next-on p o)
 
-  join-new : (r : ℕ) (p : Par4) → New4 n p → New n (joinC r p)
+  pub join-new : (r : ℕ) (p : Par4) → New4 n p → New n (joinC r p)
   unfolding joinC
   join-new r p o = catK-new (hit false (p .de .tl) (p .de .fl) (p .st .code)) (p .de .k4) r p o
 
-  index-new : (f r : ℕ) (p : Pair) → New n p → New n (indexed f r (exp2rk (dv p)))
+  pub index-new : (f r : ℕ) (p : Pair) → New n p → New n (indexed f r (exp2rk (dv p)))
   index-new f r p o = fresh-new _ _ (exp2rk (dv p) .st) (rk-on (dv p) (dv-new p o))
 
-  two-new : (F : Form) (f : ℕ) (p : Par4) (right : St → Pair) → New4 n p → ((u : St) → On n u → New n (right u)) → New n (compTwo F f p right)
+  pub two-new : (F : Form) (f : ℕ) (p : Par4) (right : St → Pair) → New4 n p → ((u : St) → On n u → New n (right u)) → New n (compTwo F f p right)
   unfolding compTwo
   two-new (logical c) f p right o r = lift-new _ (log-new c (lab c (p .de)) (dv (right (goIf c p))) (dv-new (right (goIf c p)) (r (goIf c p) (go-on c p o))))
   two-new joining f p right o r = join-new f (dv (right (nextreg p))) (dv-new (right (nextreg p)) (r (nextreg p) (next-on p o)))
@@ -469,13 +469,13 @@ module _ (n : ℕ) (pos : 1 ≤ n) where
   two-new (comparing k c w) f p right o r = let x = leftOf (numeral p) p in cmp-new k c w f (numeral p) x (dv (right (x .st))) (dv-new (right (x .st)) (r (x .st) (before-on (numeral p) p o)))
   two-new indexing f p right o r = index-new f (anyreg p .rgn) (right (anyreg p .st)) (r (anyreg p .st) (any-on p o))
 
-  text-new : (t : List ℕ) (s : St) → On n s → New n (textC t s)
+  pub text-new : (t : List ℕ) (s : St) → On n s → New n (textC t s)
   text-new t s o = fresh-new (kd (kc (ktext t))) (s .free) (addK (ktext t) s) (add-on (ktext t) s o)
 
-  call-new : (b m : ℕ) (s : St) → On n s → New n (closedCall b m s)
+  pub call-new : (b m : ℕ) (s : St) → On n s → New n (closedCall b m s)
   call-new b m s o = fresh-new _ (suc b) (flush s) (flush-on s o)
 
-  last-new : (b m : ℕ) (k : K) (p : Pair) → New n p → New n (lastArg b m k p)
+  pub last-new : (b m : ℕ) (k : K) (p : Pair) → New n p → New n (lastArg b m k p)
   unfolding lastArg
   last-new b m (kd k) p o = call-new b (suc m) (nextreg (dv p)) (next-on (dv p) (dv-new p o))
   last-new b m (kl r) p o = call-new b (suc m) (nextreg (dv p)) (next-on (dv p) (dv-new p o))
@@ -484,7 +484,7 @@ module _ (n : ℕ) (pos : 1 ≤ n) where
   last-new b m (kcl t) p o = fresh-new _ (suc b) (p .st) (o .on)
   last-new b m kva p o = fresh-new _ (suc b) (p .st) (o .on)
 
-  self-on : (t : List ℕ) (x : RgS) (f : ℕ) → On n (x .st) → On n (codeSelf t x f)
+  pub self-on : (t : List ℕ) (x : RgS) (f : ℕ) → On n (x .st) → On n (codeSelf t x f)
   unfolding codeSelf push
   self-on t x f o =
       let u = setFree (2 + f) (addK (ktext t) (x .st)) in
@@ -518,7 +518,7 @@ module _ (chunk : List ℕ) (names : List Text) where
     one-new (one-of.Field t) f p o = index-new n pos f (anyreg p .rgn) (textC (bytesOf chunk t) (anyreg p .st)) (text-new n pos (bytesOf chunk t) (anyreg p .st) (any-on n pos p o))
     one-new one-of.Paren f p o = lift-new n pos p o
 
-    callee-on : (c : Many) (f : ℕ) (p : Par4) → New4 n p → On n (callee chunk names c f p)
+    pub callee-on : (c : Many) (f : ℕ) (p : Par4) → New4 n p → On n (callee chunk names c f p)
     unfolding callee
     callee-on many.Call f p o = next-on n pos p o
     callee-on (many.MethodCall t) f p o = self-on n pos (bytesOf chunk t) (anyreg p) f (any-on n pos p o)

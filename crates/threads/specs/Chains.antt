@@ -101,6 +101,12 @@ module _ (f : List ℕ → ℕ → List ℕ) (len : (ws : List ℕ) (p : ℕ) �
   fold-chain [] ws h m a c = c
   fold-chain (p ∷ l) ws h m a c = fold-chain l (f ws p) h m (λ q b. a q (or-true-r (same q p) (mem q l) b)) (turn-chain ws p h m (a p (mem-head p l)) c)
 
+-- where a turn changes nothing behind its place, a walk changes nothing behind all its places
+pub fold-behind : (f : List ℕ → ℕ → List ℕ) → ((ws : List ℕ) (p q : ℕ) → p < q → word (f ws p) q ≡ word ws q) → (l : List ℕ) (ws : List ℕ) (q : ℕ) → ((p : ℕ) → mem p l ≡ true → p < q) → word (fold f l ws) q ≡ word ws q
+unfolding fold
+fold-behind f k [] ws q h = refl
+fold-behind f k (p ∷ l) ws q h = fold-behind f k l (f ws p) q (λ r m. h r (or-true-r (same r p) (mem r l) m)) ∙ k ws p q (h p (mem-head p l))
+
 -- where a turn keeps every Jmp, the walked thread itself lives on
 module _ (f : List ℕ → ℕ → List ℕ) (len : (ws : List ℕ) (p : ℕ) → length (f ws p) ≡ length ws)
     (keeps : (ws : List ℕ) (p q : ℕ) → IsJ (word ws q) → word (f ws p) q ≡ word ws q) where

@@ -1,13 +1,14 @@
 -- Emission: a word behind the others that no list sees; a control word with a new Jmp, which is a list of its own; `discharge_jpc`; and `emit_jump` with difference 1,
 -- by which the pending jumps lose their values and hang behind the new one. Label 0 is that of the jumps to the word to come.
-use Prim.Native.Nat.{ℕ, suc, _+_, _≤_, _<_}
+use Prim.Native.Nat.{ℕ, zero, suc, _+_, _≤_, _<_}
 use mathlib.Core.Bool.{Bool, true, false, _||_}
 use mathlib.Core.Path.{_≡_, refl, sym, _∙_}
 use mathlib.Core.List.{List, [], _∷_}
 use mathlib.Core.Option.{none}
 use native.Mathlib.Omega.{arith}
 use native.Mathlib.Nat.{zero-add}
-use lib.ListN.{length, set, length-set}
+use lib.ListN.{length, set, length-set, length-replicate}
+use Rattle.buffers.specs.Pad.{zeros}
 use Rattle.instructions.specs.Limits.{maxWords, noReg}
 use Rattle.model.specs.Jumps.{word, linked, remove-values, patch-list-aux}
 use Rattle.labelled.specs.Code.{same, same-refl, same-ne, same-true, same-false, Ctrl, always, to, lbl, PW, Instr, pl, br, pwidth, width, Code, size, Act, land, re, edit}
@@ -22,14 +23,26 @@ use Rattle.labelled.specs.Machine.{pick}
 use Rattle.labelled.specs.Emission.{here, one}
 use Rattle.labelled.specs.Edits.{size-edit}
 
+pub no-word : (n q : ℕ) → word (zeros n) q ≡ 0
+no-word zero q = refl
+no-word (suc n) zero = refl
+no-word (suc n) (suc q) = no-word n q
+
 -- heads that agree
 pub rep-heads : {K : Coding} {cap : ℕ} {ws : List ℕ} {H : ℕ → ℕ} (G : ℕ → ℕ) {c : Code} → ((ℓ : ℕ) → H ℓ ≡ G ℓ) → Rep K cap ws H c → Rep K cap ws G c
-rep-heads G e r = record { len = r .len; enc = r .enc; fits = r .fits; few = r .few; thr = λ ℓ. rw (e ℓ) at (r .thr ℓ) }
+rep-heads G e r = record { len = r .len; enc = r .enc; fits = r .fits; few = r .few; thr = λ ℓ. rw (e ℓ) at (r .thr ℓ); clean = r .clean }
 
--- the start: no code, no list
-pub rep-start : (K : Coding) (ws : List ℕ) → Rep K (length ws) ws (λ ℓ. 0) []
+-- the start: no code, no list, a buffer of zeros
+pub rep-start : (K : Coding) (n : ℕ) → Rep K n (zeros n) (λ ℓ. 0) []
 unfolding size look
-rep-start K ws = record { len = refl; enc = tt; fits = omega arith; few = omega arith; thr = λ ℓ. record { at = []; chain = refl; once = tt; is = λ p. refl; short = omega arith } }
+rep-start K n = record {
+  len = length-replicate n 0;
+  enc = tt;
+  fits = omega arith;
+  few = omega arith;
+  thr = λ ℓ. record { at = []; chain = refl; once = tt; is = λ p. refl; short = omega arith };
+  clean = λ q l. no-word n q;
+}
 
 -- ---- no list, no label
 
@@ -64,7 +77,7 @@ module _ (F : Instr → Bool) (i : Instr) (c : Code) (h : F i ≡ false) where
   unfolding count
   count-top = rw h (zero-add (count F c))
 
-thr-top : {ws : List ℕ} (us : List ℕ) (i : Instr) {c : Code} {ℓ h : ℕ} → length us ≡ length ws → ((q : ℕ) → q < size c → word us q ≡ word ws q) → isLab ℓ i ≡ false → Thr ws c ℓ h → Thr us (i ∷ c) ℓ h
+pub thr-top : {ws : List ℕ} (us : List ℕ) (i : Instr) {c : Code} {ℓ h : ℕ} → length us ≡ length ws → ((q : ℕ) → q < size c → word us q ≡ word ws q) → isLab ℓ i ≡ false → Thr ws c ℓ h → Thr us (i ∷ c) ℓ h
 thr-top {ws = ws} us i {c = c} {ℓ = ℓ} {h = h} n g z t = record {
   at = t .at;
   chain = chain-keep ws us h (t .at) n (λ q m j. g q (look-range (isLab ℓ) c q (sym (t .is q) ∙ m))) (t .chain);
@@ -74,7 +87,7 @@ thr-top {ws = ws} us i {c = c} {ℓ = ℓ} {h = h} n g z t = record {
 }
 
 module _ {K : Coding} {cap : ℕ} {ws : List ℕ} {H : ℕ → ℕ} {c : Code} (us : List ℕ) (i : Instr) (n : length us ≡ length ws) (g : (q : ℕ) → q < size c → word us q ≡ word ws q)
-    (room : width i + size c ≤ cap) (few : width i + size c ≤ maxWords) (e : EncI K us (size c) i) (r : Rep K cap ws H c) where
+    (room : width i + size c ≤ cap) (few : width i + size c ≤ maxWords) (e : EncI K us (size c) i) (behind : (q : ℕ) → width i + size c ≤ q → word us q ≡ 0) (r : Rep K cap ws H c) where
   -- one that waits for nothing
   pub rep-plain : pend i ≡ false → Rep K cap us H (i ∷ c)
   unfolding size
@@ -84,12 +97,13 @@ module _ {K : Coding} {cap : ℕ} {ws : List ℕ} {H : ℕ → ℕ} {c : Code} (
     fits = room;
     few = few;
     thr = λ ℓ. thr-top us i n g (no-lab ℓ i z) (r .thr ℓ);
+    clean = behind;
   }
 
   -- a control word and its new Jmp, or a Jmp alone, under a label that has no list
   pub rep-pend : (k : Ctrl) (m : ℕ) → i ≡ br k (lbl m) → word us (jofs k + size c) ≡ newJ → H m ≡ 0 → Rep K cap us (setH m (suc (jofs k + size c)) H) (i ∷ c)
   unfolding size look count
-  rep-pend k m z w y = record { len = n ∙ r .len; enc = (e, enc-agree K ws us c g (r .enc)); fits = room; few = few; thr = λ ℓ. split ℓ (same ℓ m) refl }
+  rep-pend k m z w y = record { len = n ∙ r .len; enc = (e, enc-agree K ws us c g (r .enc)); fits = room; few = few; thr = λ ℓ. split ℓ (same ℓ m) refl; clean = behind }
     where
       kw : width i ≡ suc (jofs k)
       kw = rw z (cwidth-tail k)
@@ -146,7 +160,7 @@ module _ {K : Coding} {cap : ℕ} {ws : List ℕ} {H : ℕ → ℕ} {c : Code} (
       let d : List ℕ = discharged ws (size c) (H 0) in
       let s : size (edit (here c) c) ≡ size c = size-edit (here c) c in
       rep-plain (set d (size c) v) (pl x) (length-set d (size c) v) (λ q l. word-other d (size c) q v (λ y. omega arith))
-      (omega arith) (omega arith) (rw s e) rep-discharge refl
+      (omega arith) (omega arith) (rw s e) (λ q l. word-other d (size c) q v (λ y. omega arith) ∙ rep-discharge .clean q (omega arith)) rep-discharge refl
 
   -- a control word with a new Jmp, under a label that has no list
   pub rep-pair : (k : Ctrl) (m w : ℕ) → jofs k ≡ 1 → Open k → ((us : List ℕ) → word us (size c) ≡ w → Ctl K us (size c) k) → H m ≡ 0 → 1 + size c < cap → 1 + size c < maxWords →
@@ -162,7 +176,8 @@ module _ {K : Coding} {cap : ℕ} {ws : List ℕ} {H : ℕ → ℕ} {c : Code} (
       rw (two, s) at (rep-pend us (br k (lbl m)) (length-set (set d (size c) w) (1 + size c) newJ ∙ length-set d (size c) w)
       (λ q l. word-other (set d (size c) w) (1 + size c) q newJ (λ y. omega arith) ∙ word-other d (size c) q w (λ y. omega arith))
       (omega (arith, cwidth-tail k)) (omega (arith, cwidth-tail k))
-      (rw (s, two) (cw us low, (rw top (is-jmp _), op))) rep-discharge k m refl (rw (s, two) top) fr)
+      (rw (s, two) (cw us low, (rw top (is-jmp _), op)))
+      (λ q l. word-other (set d (size c) w) (1 + size c) q newJ (λ y. omega (arith, cwidth-tail k)) ∙ word-other d (size c) q w (λ y. omega (arith, cwidth-tail k)) ∙ rep-discharge .clean q (omega arith)) rep-discharge k m refl (rw (s, two) top) fr)
     where
       zero-head : (t : Bool) → pick t 0 (H m) ≡ 0
       zero-head true = refl
@@ -186,7 +201,8 @@ module _ {K : Coding} {cap : ℕ} {ws : List ℕ} {H : ℕ → ℕ} {c : Code} (
     new =
         let top : word us₁ (size c) ≡ newJ = word-same ws₁ (size c) newJ (omega (arith, rep-strip r 0 .len)) in
         rw (sz, zero-add (size c)) at (rep-pend us₁ (br always (lbl m)) (length-set ws₁ (size c) newJ) (λ q l. word-other ws₁ (size c) q newJ (λ y. omega (arith, sz)))
-        (omega (arith, sz)) (omega (arith, sz)) (tt, (rw (sz, zero-add (size c), top) (is-jmp _), tt)) (rep-strip r 0) always m refl (rw (sz, zero-add (size c)) top) fresh)
+        (omega (arith, sz)) (omega (arith, sz)) (tt, (rw (sz, zero-add (size c), top) (is-jmp _), tt))
+        (λ q l. word-other ws₁ (size c) q newJ (λ y. omega (arith, sz)) ∙ rep-strip r 0 .clean q (omega (arith, sz))) (rep-strip r 0) always m refl (rw (sz, zero-add (size c)) top) fresh)
 
     heads : (ℓ : ℕ) → setH m (suc (size c)) (setH 0 0 (setH m (suc (size c)) H)) ℓ ≡ setH m (suc (size c)) (setH 0 0 H) ℓ
     heads ℓ = go (same ℓ m)

@@ -37,4 +37,4 @@ module _ {K L : Coding} (m : More K L) where
   enc-grow ws (i ∷ c) h = (encI-grow ws (size c) i (h .0), enc-grow ws c (h .1))
 
   pub rep-grow : {cap : ℕ} {ws : List ℕ} {H : ℕ → ℕ} {c : Code} → Rep K cap ws H c → Rep L cap ws H c
-  rep-grow {ws = ws} {c = c} r = record { len = r .len; enc = enc-grow ws c (r .enc); fits = r .fits; few = r .few; thr = r .thr }
+  rep-grow {ws = ws} {c = c} r = record { len = r .len; enc = enc-grow ws c (r .enc); fits = r .fits; few = r .few; thr = r .thr; clean = r .clean }

@@ -3,7 +3,7 @@
 use Prim.Native.Nat.{ℕ, zero, suc, _+_, _<_, _≤_}
 use mathlib.Core.Bool.{Bool, true, false, _||_}
 use mathlib.Core.Path.{_≡_, refl, _∙_, ap}
-use mathlib.Core.List.{List}
+use mathlib.Core.List.{List, [], _∷_}
 use native.Mathlib.Omega.{arith}
 use native.Mathlib.Numerals.{add-one}
 use lib.ListN.{length, set}
@@ -86,9 +86,13 @@ pub discharge-is : (s : State) (m : Buffers) → discharge-jpc s m ≡ done tt (
 unfolding discharge-jpc andThen
 discharge-is s m = refl
 
-pub emit-is : (w : ℕ) (s : State) (m : Buffers) → emit w s m ≡ push w (s .line) (with-jpc 0 s) (with-code (discharged (m .code) (s .pc) (s .jpc)) m)
-unfolding discharge-jpc emit-at emit andThen
-emit-is w s m = refl
+pub emit-at-is : (w line : ℕ) (s : State) (m : Buffers) → emit-at w line s m ≡ push w line (with-jpc 0 s) (with-code (discharged (m .code) (s .pc) (s .jpc)) m)
+unfolding discharge-jpc emit-at andThen
+emit-at-is w line s m = refl
+
+pub emit-line : (w : ℕ) (s : State) (m : Buffers) → emit w s m ≡ emit-at w (s .line) s m
+unfolding emit andThen
+emit-line w s m = refl
 
 push-is : (w line : ℕ) (s : State) (m : Buffers) → push w line s m ≡ pick (no-room s m) (refused Words m) (done (s .pc) (with-pc (s .pc + 1) s) (store w line s m))
 unfolding push
@@ -121,18 +125,21 @@ here-none s m = here-is 0 s m ∙ rw (concat-zero (s .jpc), linked-none (m .code
 -- ---- a word more
 
 -- these words, and the line of the new one
+abbrev pub written-at : ℕ → List ℕ → State → Buffers → Buffers
+written-at line us s m = record { code = us; lines = set (m .lines) (s .pc) line; kinds = m .kinds; values = m .values; pool = m .pool }
+
 abbrev pub written : List ℕ → State → Buffers → Buffers
-written us s m = record { code = us; lines = set (m .lines) (s .pc) (s .line); kinds = m .kinds; values = m .values; pool = m .pool }
+written us s m = written-at (s .line) us s m
 
 or-false : (a b : Bool) → (a || b) ≡ false → (a ≡ false) × (b ≡ false)
 or-false true b h = absurd (let z : _≡_ {A = ℕ} 0 1 = cc in omega arith)
 or-false false b h = (refl, h)
 
-roomy : (s : State) (m : Buffers) → no-room s m ≡ false → (s .pc < length (m .code)) × (s .pc < maxWords)
+pub roomy : (s : State) (m : Buffers) → no-room s m ≡ false → (s .pc < length (m .code)) × ((s .pc < length (m .lines)) × (s .pc < maxWords))
 roomy s m h =
     let a = or-false (leb (length (m .code)) (s .pc)) (leb (length (m .lines)) (s .pc) || leb maxWords (s .pc)) h in
     let b = or-false (leb (length (m .lines)) (s .pc)) (leb maxWords (s .pc)) (a .1) in
-    (leb-false (length (m .code)) (s .pc) (a .0), leb-false maxWords (s .pc) (b .1))
+    (leb-false (length (m .code)) (s .pc) (a .0), (leb-false (length (m .lines)) (s .pc) (b .0), leb-false maxWords (s .pc) (b .1)))
 
 module _ (s : State) (m : Buffers) where
   push-ends : (w line : ℕ) (P : ℕ → State → Buffers → Type 0) → (s .pc < length (m .code) → s .pc < maxWords → P (s .pc) (with-pc (s .pc + 1) s) (store w line s m)) → Ends (push w line s m) P
@@ -140,11 +147,38 @@ module _ (s : State) (m : Buffers) where
     where
       go : (t : Bool) → no-room s m ≡ t → Ends (pick t (refused Words m) (done (s .pc) (with-pc (s .pc + 1) s) (store w line s m))) P
       go true e = refuses Words m refl
-      go false e = gives (s .pc) (with-pc (s .pc + 1) s) (store w line s m) refl (p (roomy s m e .0) (roomy s m e .1))
+      go false e = gives (s .pc) (with-pc (s .pc + 1) s) (store w line s m) refl (p (roomy s m e .0) (roomy s m e .1 .1))
+
+pub emit-at-ends : (w line : ℕ) (s : State) (m : Buffers) (P : ℕ → State → Buffers → Type 0) →
+    (s .pc < length (discharged (m .code) (s .pc) (s .jpc)) → s .pc < maxWords → P (s .pc) (with-pc (s .pc + 1) (with-jpc 0 s)) (written-at line (emitted (m .code) (s .pc) (s .jpc) w) s m)) → Ends (emit-at w line s m) P
+emit-at-ends w line s m P p = rw (emit-at-is w line s m) (push-ends (with-jpc 0 s) (with-code (discharged (m .code) (s .pc) (s .jpc)) m) w line P p)
+
+-- another word instead of the last
+pub set-twice : (l : List ℕ) (i a b : ℕ) → set (set l i a) i b ≡ set l i b
+set-twice [] i a b = refl
+set-twice (x ∷ l) zero a b = refl
+set-twice (x ∷ l) (suc i) a b = ap (λ z. x ∷ z) (set-twice l i a b)
+
+pub emit-instead : (v w : ℕ) (s : State) (m : Buffers) → emit w s m ≡ andThen (emit v s m) (λ pc s₁ m₁. done pc s₁ (with-code (set (m₁ .code) pc w) m₁))
+unfolding andThen
+emit-instead v w s m = rw (emit-line w s m, emit-line v s m, emit-at-is w (s .line) s m, emit-at-is v (s .line) s m, push-is w (s .line) s₁ m₁, push-is v (s .line) s₁ m₁) (go (no-room s₁ m₁))
+  where
+    s₁ : State
+    s₁ = with-jpc 0 s
+
+    m₁ : Buffers
+    m₁ = with-code (discharged (m .code) (s .pc) (s .jpc)) m
+
+    stored : done (s .pc) (with-pc (s .pc + 1) s₁) (store w (s .line) s₁ m₁) ≡ andThen (done (s .pc) (with-pc (s .pc + 1) s₁) (store v (s .line) s₁ m₁)) (λ pc s₁ m₁. done pc s₁ (with-code (set (m₁ .code) pc w) m₁))
+    stored = rw (set-twice (m₁ .code) (s .pc) v w) refl
+
+    go : (t : Bool) → pick t (refused Words m₁) (done (s .pc) (with-pc (s .pc + 1) s₁) (store w (s .line) s₁ m₁)) ≡ andThen (pick t (refused Words m₁) (done (s .pc) (with-pc (s .pc + 1) s₁) (store v (s .line) s₁ m₁))) (λ pc s₁ m₁. done pc s₁ (with-code (set (m₁ .code) pc w) m₁))
+    go true = refl
+    go false = stored
 
 pub emit-ends : (w : ℕ) (s : State) (m : Buffers) (P : ℕ → State → Buffers → Type 0) →
     (s .pc < length (discharged (m .code) (s .pc) (s .jpc)) → s .pc < maxWords → P (s .pc) (with-pc (s .pc + 1) (with-jpc 0 s)) (written (emitted (m .code) (s .pc) (s .jpc) w) s m)) → Ends (emit w s m) P
-emit-ends w s m P p = rw (emit-is w s m) (push-ends (with-jpc 0 s) (with-code (discharged (m .code) (s .pc) (s .jpc)) m) w (s .line) P p)
+emit-ends w s m P p = rw (emit-line w s m) (emit-at-ends w (s .line) s m P p)
 
 abbrev pub stripped : State → Buffers → List ℕ
 stripped s m = remove-values (length (m .code)) (m .code) (s .jpc)

@@ -9,6 +9,7 @@ pub mod Emitting
 pub mod Needs
 pub mod Last
 pub mod Growing
+pub mod Coded
 pub mod Holding
 pub mod Stepping
 pub mod Going

@@ -7,13 +7,13 @@ use mathlib.Core.List.{List, [], _∷_, _++_}
 use native.Mathlib.Omega.{arith}
 use lib.ListN.{length, length-append}
 use Rattle.instructions.specs.Limits.{maxWords, noReg}
-use Rattle.model.specs.Jumps.{concat-jumps, linked, remove-values, patch-list-aux}
+use Rattle.model.specs.Jumps.{word, concat-jumps, linked, remove-values, patch-list-aux}
 use Rattle.labelled.specs.Code.{same, same-refl, same-ne, same-true, same-false, to, lbl, Instr, pl, br, Code, size, Act, keep, land, re, edit, ed1, edBr}
-use Rattle.threads.specs.Words.{patchAt, patch-walk, len-jump}
+use Rattle.threads.specs.Words.{patchAt, patch-walk, jumped-off, len-jump}
 use Rattle.threads.specs.Places.{edI, isLab, isL, atPos, allPos, mem, count, count-size, all-edit, size-atPos, width-edI, key-edI, look-edit, look-or, look-imp, look-apart, look-range, look-none, look-other, count-edit, count-or, lab-re, lab-land, lab-apart, lab-off, lab-gone, lab-kept, lab-both}
 use Rattle.threads.specs.Encoding.{Coding, pend, isP, lab-pend, EncI, Enc}
-use Rattle.threads.specs.Turns.{optR, ret-jump, len-ret, patch-keeps, len-patch, patch-step, strip-step, link-step}
-use Rattle.threads.specs.Chains.{bool-clash, NoDup, Chain, Apart, Small, mem-append, nodup-append, chain-in, fold, walk-fold, len-fold, fold-chain, fold-stays, stripAt, strip-fold, jump-chain, join-chain, Joined, stays, sent, join-how}
+use Rattle.threads.specs.Turns.{optR, ret-jump, len-ret, patch-keeps, len-patch, ret-behind, patch-behind, patch-step, strip-step, link-step}
+use Rattle.threads.specs.Chains.{bool-clash, NoDup, Chain, Apart, Small, mem-append, nodup-append, chain-in, fold, walk-fold, len-fold, fold-chain, fold-behind, fold-stays, stripAt, strip-fold, jump-chain, join-chain, Joined, stays, sent, join-how}
 use Rattle.labelled.specs.Machine.{pick}
 use Rattle.labelled.specs.Emission.{one}
 use Rattle.labelled.specs.Edits.{size-edit}
@@ -30,13 +30,14 @@ pub record Thr (ws : List ℕ) (c : Code) (ℓ h : ℕ) : Type 0 where
 abbrev pub setH : ℕ → ℕ → (ℕ → ℕ) → ℕ → ℕ
 setH a x H ℓ = pick (same ℓ a) x (H ℓ)
 
--- words of a buffer of cap words, with a head for every label (0 where it has no jump), represent labelled code
+-- words of a buffer of cap words, with a head for every label (0 where it has no jump), represent labelled code; behind it they are zero
 pub record Rep (K : Coding) (cap : ℕ) (ws : List ℕ) (H : ℕ → ℕ) (c : Code) : Type 0 where
   pub len : length ws ≡ cap
   pub enc : Enc K ws c
   pub fits : size c ≤ cap
   pub few : size c ≤ maxWords
   pub thr : (ℓ : ℕ) → Thr ws c ℓ (H ℓ)
+  pub clean : (q : ℕ) → size c ≤ q → word ws q ≡ 0
 
 -- ---- threads
 
@@ -51,6 +52,9 @@ module _ {ws : List ℕ} {c : Code} {a g : ℕ} (s : Thr ws c a g) where
 
   small : size c ≤ maxWords → Small (s .at)
   small f q m = omega (arith, look-range (isLab a) c q (sym (s .is q) ∙ m))
+
+  below : (q : ℕ) → size c ≤ q → (p : ℕ) → mem p (s .at) ≡ true → p < q
+  below q l p m = omega (arith, look-range (isLab a) c p (sym (s .is p) ∙ m))
 
   pended : (p : ℕ) → mem p (s .at) ≡ true → isP c p ≡ true
   pended p m = look-imp (isLab a) pend (lab-pend a) c p (sym (s .is p) ∙ m)
@@ -112,6 +116,7 @@ module _ {K : Coding} {cap : ℕ} {ws : List ℕ} {H : ℕ → ℕ} {c : Code} (
       fits = omega (arith, size-edit (one a pact) c, r .fits);
       few = omega (arith, size-edit (one a pact) c, r .few);
       thr = λ ℓ. patch-thr ℓ (same ℓ a) refl;
+      clean = λ q l. let h : size c ≤ q = omega (arith, size-edit (one a pact) c) in fold-behind (patchAt v reg d) (patch-behind v reg d) (r .thr a .at) ws q (below (r .thr a) q h) ∙ r .clean q h;
     })
 
   -- remove_values ⇒ edit with re a true
@@ -134,6 +139,7 @@ module _ {K : Coding} {cap : ℕ} {ws : List ℕ} {H : ℕ → ℕ} {c : Code} (
       few = omega (arith, size-edit (one a (re a true)) c, r .few);
       thr = λ ℓ. thr-other (r .thr ℓ) _ (one a (re a true)) (strip-lab ℓ (same ℓ a) refl)
           (fold-stays stripAt (λ us p. len-ret us p noReg) (λ us p q j. ret-jump us p noReg q j) (r .thr a .at) ws (H ℓ) (r .thr ℓ .at) (r .thr ℓ .chain));
+      clean = λ q l. let h : size c ≤ q = omega (arith, size-edit (one a (re a true)) c) in fold-behind stripAt (ret-behind noReg) (r .thr a .at) ws q (below (r .thr a) q h) ∙ r .clean q h;
     })
 
   -- concat_jumps(x, y), called b afterwards ⇒ relabel a b, where {a, b} is {x, y}
@@ -155,6 +161,10 @@ module _ {K : Coding} {cap : ℕ} {ws : List ℕ} {H : ℕ → ℕ} {c : Code} (
     join-len : (us : List ℕ) → Joined ws us (r .thr x .at) → length us ≡ length ws
     join-len us (stays e) = rw e refl
     join-len us (sent p t m e) = rw e (len-jump ws p t)
+
+    join-behind : (us : List ℕ) → Joined ws us (r .thr x .at) → (q : ℕ) → size c ≤ q → word us q ≡ word ws q
+    join-behind us (stays e) q l = rw e refl
+    join-behind us (sent p t m e) q l = rw e (jumped-off ws p t q (λ z. omega (arith, below (r .thr x) q l p m)))
 
     join-other : (ℓ : ℕ) → (ℓ ≡ x → ⊥) → (us : List ℕ) → Joined ws us (r .thr x .at) → Chain us (H ℓ) (r .thr ℓ .at)
     join-other ℓ n us (stays e) = rw e (r .thr ℓ .chain)
@@ -198,6 +208,7 @@ module _ {K : Coding} {cap : ℕ} {ws : List ℕ} {H : ℕ → ℕ} {c : Code} (
       fits = omega (arith, size-edit jact c, r .fits);
       few = omega (arith, size-edit jact c, r .few);
       thr = λ ℓ. join-thr ℓ (same ℓ b) (same ℓ a) refl refl;
+      clean = λ q l. let h : size c ≤ q = omega (arith, size-edit jact c) in join-behind jws how q h ∙ r .clean q h;
     }
 
   -- concat_jumps(b, a): list a goes behind list b

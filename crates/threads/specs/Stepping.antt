@@ -12,7 +12,7 @@ use Rattle.instructions.specs.declared.OpCode.the-variants.{Test}
 use Rattle.model.specs.declared.State.{State}
 use Rattle.model.specs.Steps.{Buffers, done, Step, andThen, _>>_}
 use Rattle.model.specs.Jumps.{word, concat-jumps, linked, remove-values, patch-list-aux}
-use Rattle.model.specs.Emission.{with-pc, with-jpc, with-label, discharge-jpc, emit, concat, emit-jump, patch-to-here, get-label}
+use Rattle.model.specs.Emission.{with-pc, with-jpc, with-label, discharge-jpc, emit-at, emit, concat, emit-jump, patch-to-here, get-label}
 use Rattle.model.specs.Values.{Kind}
 use Rattle.model.specs.declared.ExprContext.{ExprContext}
 use Rattle.model.specs.Conditions.{bit, pop, invertjump}
@@ -26,7 +26,7 @@ use Rattle.threads.specs.Emitting.{discharged, emitted, emitted-pair, em
 use Rattle.threads.specs.Needs.{some-hit}
 use Rattle.threads.specs.Growing.{More, rep-grow}
 use Rattle.threads.specs.Last.{rep-mark, rep-instead, rep-replace, rep-taken, inverted, rep-invert}
-use Rattle.threads.specs.Holding.{Ends, ends-then, ends-map, Holds, Became, with-code, discharge-is, concat-is, here-is, label-is, invert-is, written, emit-ends, stripped, jump-ends}
+use Rattle.threads.specs.Holding.{Ends, ends-then, ends-map, Holds, Became, with-code, discharge-is, concat-is, here-is, label-is, invert-is, written, emit-at-ends, emit-line, emit-ends, stripped, jump-ends}
 use Rattle.labelled.specs.Machine.{pick}
 use Rattle.labelled.specs.Emission.{here, hit, one}
 use Rattle.labelled.specs.Edits.{size-edit}
@@ -56,11 +56,11 @@ module _ {K : Coding} {cap : ℕ} {s : State} {m : Buffers} {H : ℕ → ℕ} {c
     },
   )
 
-  -- `emit` of a plain word
-  pub hold-emit : (x : PW) (w : ℕ) → pwidth x ≡ 1 → ((us : List ℕ) → word us (size c) ≡ w → K .plain us (size c) x) →
-      Ends (emit w s m) (λ a s′ m′. (a ≡ size c) × Became K cap m (with-pc (s .pc + 1) (with-jpc 0 s)) (setH 0 0 H) (pl x ∷ edit (here c) c) s′ m′)
+  -- `emit` of a plain word, at a line
+  pub hold-emit-at : (line : ℕ) (x : PW) (w : ℕ) → pwidth x ≡ 1 → ((us : List ℕ) → word us (size c) ≡ w → K .plain us (size c) x) →
+      Ends (emit-at w line s m) (λ a s′ m′. (a ≡ size c) × Became K cap m (with-pc (s .pc + 1) (with-jpc 0 s)) (setH 0 0 H) (pl x ∷ edit (here c) c) s′ m′)
   unfolding size
-  hold-emit x w o pw = emit-ends w s m _ (λ a b. (
+  hold-emit-at line x w o pw = emit-at-ends w line s m _ (λ a b. (
     h .pcs,
     record {
       state = refl;
@@ -78,6 +78,10 @@ module _ {K : Coding} {cap : ℕ} {s : State} {m : Buffers} {H : ℕ → ℕ} {c
 
       inside : s .pc < length (discharged (m .code) (s .pc) (s .jpc)) → size c < cap
       inside a = let z : size c < length (discharged (m .code) (size c) (H 0)) = rw (h .pcs, h .jpcs) at a in omega (arith, l)
+
+  pub hold-emit : (x : PW) (w : ℕ) → pwidth x ≡ 1 → ((us : List ℕ) → word us (size c) ≡ w → K .plain us (size c) x) →
+      Ends (emit w s m) (λ a s′ m′. (a ≡ size c) × Became K cap m (with-pc (s .pc + 1) (with-jpc 0 s)) (setH 0 0 H) (pl x ∷ edit (here c) c) s′ m′)
+  hold-emit x w o pw = rw (emit-line w s m) (hold-emit-at (s .line) x w o pw)
 
   -- where no jump is pending to here
   pub hold-emit₀ : (x : PW) (w : ℕ) → pwidth x ≡ 1 → ((us : List ℕ) → word us (size c) ≡ w → K .plain us (size c) x) → H 0 ≡ 0 →
@@ -254,42 +258,12 @@ module _ {K : Coding} {cap : ℕ} {s : State} {m : Buffers} {H : ℕ → ℕ} {c
   unfolding size
   hold-replace u v o e = record { rep = rep-replace one (h .rep) u v o (e _ (word-same (m .code) (size c) v (omega (arith, h .rep .fits, h .rep .len)))); pcs = omega (arith, h .pcs); jpcs = h .jpcs }
 
-  -- `emit` of a word that the last instruction takes over; no jump is pending to here
-  pub hold-longer : (u : PW) (v : ℕ) → pwidth u ≡ 2 → H 0 ≡ 0 → ((us : List ℕ) → word us (size c) ≡ word (m .code) (size c) → word us (1 + size c) ≡ v → K .plain us (size c) u) →
-      Ends (emit v s m) (λ a s′ m′. (a ≡ 1 + size c) × Became K cap m (with-pc (s .pc + 1) (with-jpc 0 s)) H (pl u ∷ c) s′ m′)
-  unfolding size
-  hold-longer u v o z e = emit-ends v s m _ (λ a b. (
-    at-end,
-    record {
-      state = refl;
-      kept = record { kinds = refl; values = refl; pool = refl };
-      holds = record {
-        rep = rw (words-are, at-end) (rep-instead us (pl u) refl refl (length-set (m .code) (1 + size c) v) (λ q l. word-other (m .code) (1 + size c) q v (λ y. omega arith))
-            (omega (arith, o, inside a, h .rep .len)) (omega (arith, o, at-end)) (e us (word-other (m .code) (1 + size c) (size c) v (λ y. omega arith)) (word-same (m .code) (1 + size c) v (omega (arith, inside a)))) (h .rep));
-        pcs = omega (arith, at-end, o);
-        jpcs = sym z;
-      };
-    },
-  ))
-    where
-      us : List ℕ
-      us = set (m .code) (1 + size c) v
-
-      at-end : s .pc ≡ 1 + size c
-      at-end = omega (arith, h .pcs)
-
-      words-are : discharged (m .code) (s .pc) (s .jpc) ≡ m .code
-      words-are = rw (h .jpcs, z) (patch-none (length (m .code)) (m .code) (s .pc) noReg (s .pc))
-
-      inside : s .pc < length (discharged (m .code) (s .pc) (s .jpc)) → 1 + size c < length (m .code)
-      inside a = let y : s .pc < length (m .code) = rw words-are at a in omega (arith, at-end)
-
   -- `pop`
   pub hold-pop : (m′ : Buffers) → m′ .code ≡ set (m .code) (s .pc - 1) 0 → Holds K cap (with-pc (s .pc - 1) s) m′ H c
   unfolding size
   hold-pop m′ e =
       let z : s .pc - 1 ≡ size c = omega (arith, h .pcs) in
-      record { rep = rw (e, z) (rep-taken one (h .rep) 0); pcs = z; jpcs = h .jpcs }
+      record { rep = rw (e, z) (rep-taken one (h .rep)); pcs = z; jpcs = h .jpcs }
 
   -- `jumponcond` on a `Not` that is still to get its register: popped, then `Test` with the opposite sense and a Jmp under a label that has no list; no jump is pending to here
   pub hold-popped : (b ℓ : ℕ) (k : Bool) → b < noReg → H 0 ≡ 0 → (ℓ ≡ 0 → ⊥) → H ℓ ≡ 0 →
@@ -300,6 +274,39 @@ module _ {K : Coding} {cap : ℕ} {s : State} {m : Buffers} {H : ℕ → ℕ} {c
     where
       q : Holds K cap (with-pc (s .pc - 1) s) (taken s m) H c
       q = hold-pop (taken s m) refl
+
+-- `emit` of a word that the last instruction takes over, whose own words alone may have changed, to us; no jump is pending to here
+module _ {K : Coding} {cap : ℕ} {s : State} {m : Buffers} {H : ℕ → ℕ} {c : Code} {w : PW} (h : Holds K cap s m H (pl w ∷ c)) (us : List ℕ) (n : length us ≡ length (m .code)) (g : (q : ℕ) → q < size c → word us q ≡ word (m .code) q) (z : H 0 ≡ 0)
+    (behind : (q : ℕ) → pwidth w + size c ≤ q → word us q ≡ word (m .code) q) where
+  pub hold-over : (line : ℕ) (u : PW) (v : ℕ) → pwidth u ≡ 1 + pwidth w → ((vs : List ℕ) → ((q : ℕ) → q < pwidth w + size c → word vs q ≡ word us q) → word vs (pwidth w + size c) ≡ v → K .plain vs (size c) u) →
+      Ends (emit-at v line s (with-code us m)) (λ a s′ m′. (a ≡ pwidth w + size c) × Became K cap m (with-pc (s .pc + 1) (with-jpc 0 s)) H (pl u ∷ c) s′ m′)
+  unfolding size
+  hold-over line u v o e = emit-at-ends v line s (with-code us m) _ (λ a b. (
+    at-end,
+    record {
+      state = refl;
+      kept = record { kinds = refl; values = refl; pool = refl };
+      holds = record {
+        rep = rw (words-are, at-end) (rep-instead vs (pl u) refl refl (length-set us (pwidth w + size c) v ∙ n) (λ q l. word-other us (pwidth w + size c) q v (λ y. omega arith) ∙ g q l)
+            (omega (arith, o, inside a, n, h .rep .len)) (omega (arith, o, at-end)) (e vs (λ q l. word-other us (pwidth w + size c) q v (λ y. omega arith)) (word-same us (pwidth w + size c) v (omega (arith, inside a))))
+            (λ q l. word-other us (pwidth w + size c) q v (λ y. omega (arith, o)) ∙ behind q (omega (arith, o)) ∙ h .rep .clean q (omega (arith, o))) (h .rep));
+        pcs = omega (arith, at-end, o);
+        jpcs = sym z;
+      };
+    },
+  ))
+    where
+      vs : List ℕ
+      vs = set us (pwidth w + size c) v
+
+      at-end : s .pc ≡ pwidth w + size c
+      at-end = h .pcs
+
+      words-are : discharged us (s .pc) (s .jpc) ≡ us
+      words-are = rw (h .jpcs, z) (patch-none (length us) us (s .pc) noReg (s .pc))
+
+      inside : s .pc < length (discharged us (s .pc) (s .jpc)) → pwidth w + size c < length us
+      inside a = let y : s .pc < length us = rw words-are at a in omega (arith, at-end)
 
 -- `invertjump`
 pub hold-invert : {K : Coding} {cap : ℕ} {s : State} {m : Buffers} {H : ℕ → ℕ} {c : Code} {o : Kind} {k : Bool} {x y : Rk} {ℓ : ℕ} (e : ExprContext) → e .info ≡ 1 + size c →

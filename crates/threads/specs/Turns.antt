@@ -86,6 +86,13 @@ patch-keeps v reg d ws p q h a = jumped-off (ret ws p reg) p _ q a ∙ ret-jump 
 pub patch-local : (v reg d : ℕ) (ws : List ℕ) (p q : ℕ) → (q ≡ p → ⊥) → (suc q ≡ p → isTest (word ws q) ≡ false) → word (patchAt v reg d ws p) q ≡ word ws q
 patch-local v reg d ws p q a b = jumped-off (ret ws p reg) p _ q a ∙ ret-local ws p reg q a b
 
+-- behind the Jmp nothing changes
+pub ret-behind : (reg : ℕ) (ws : List ℕ) (p q : ℕ) → p < q → word (ret ws p reg) q ≡ word ws q
+ret-behind reg ws p q h = ret-local ws p reg q (λ e. omega arith) (λ e. absurd (omega arith))
+
+pub patch-behind : (v reg d : ℕ) (ws : List ℕ) (p q : ℕ) → p < q → word (patchAt v reg d ws p) q ≡ word ws q
+patch-behind v reg d ws p q h = patch-local v reg d ws p q (λ e. omega arith) (λ e. absurd (omega arith))
+
 pub len-patch : (v reg d : ℕ) (ws : List ℕ) (p : ℕ) → length (patchAt v reg d ws p) ≡ length ws
 len-patch v reg d ws p = len-jump (ret ws p reg) p _ ∙ len-ret ws p reg
 

@@ -5,6 +5,9 @@ use borrow.Author.Needs.{needs}
 use Rattle.discharge.proofs.small.Statement.{statement}
 use Rattle.discharge.proofs.small.Tie as tie
 
+fits-rk-requires : tie.Need-fits-rk-requires
+fits-rk-requires c κs = search needs
+
 own-constant-requires : tie.Need-own-constant-requires
 own-constant-requires c κs = search needs
 
@@ -24,7 +27,8 @@ returns : tie.Need-returns
 returns c =
     let p7 = c .before .before .before .before .before .before .before in
     let p11 = p7 .before .before .before .before in
-    small-fits _ _ _ _ (p11 .if1 .taken) ((p7 .own-constant .ensures) _ _) ((c .as-constant .ensures) _)
+    let p12 = p11 .before in
+    small-fits _ _ _ _ ((p12 .fits-rk .ensures) ∙ (p11 .if1 .taken)) ((p7 .own-constant .ensures) _ _) ((c .as-constant .ensures) _)
 
 exp2anyreg-requires : tie.Need-exp2anyreg-requires
 exp2anyreg-requires c κs = search needs
@@ -48,12 +52,14 @@ returns-2 : tie.Need-returns-2
 returns-2 c =
     let p10 = c .before .before .before .before .before .before .before .before .before .before in
     let p16 = p10 .before .before .before .before .before .before in
-    small-not _ _ _ _ (p16 .if1 .left) ∙ (p10 .exp2anyreg .ensures)
+    let p17 = p16 .before in
+    small-not _ _ _ _ ((p17 .fits-rk .ensures) ∙ (p16 .if1 .left)) ∙ (p10 .exp2anyreg .ensures)
 
 pub small-spec : {M : Type 1} → statement M
 small-spec =
     tie.close
     (tie.spec
+    fits-rk-requires
     own-constant-requires
     as-constant-requires
     same-length

@@ -1,0 +1,58 @@
+-- `calls::string_constant` meets its contract, by that of `add_constant`. Assumes nothing.
+use Rattle.calls.specs.Laws.{constant-at, constant-refused}
+use borrow.Author.Needs.{needs}
+use Rattle.calls.proofs.string_constant.Statement.{statement}
+use Rattle.calls.proofs.string_constant.Tie as tie
+
+add-constant-requires : tie.Need-add-constant-requires
+add-constant-requires c κs = search needs
+
+enum-known-answer : tie.Need-enum-known-answer
+enum-known-answer c = search needs
+
+enum-known-answer-2 : tie.Need-enum-known-answer-2
+enum-known-answer-2 c = search needs
+
+same-length : tie.Need-same-length
+same-length c = search needs
+
+same-length-2 : tie.Need-same-length-2
+same-length-2 c = search needs
+
+same-length-3 : tie.Need-same-length-3
+same-length-3 c = search needs
+
+returns : tie.Need-returns
+returns c =
+    let p9 = c .before .before .before .before .before .before .before .before .before in
+    λ h cs ls. constant-at _ _ _ cs ls _ _ _ (rw (c .before .answer .given .1) at (p9 .add-constant .ensures))
+
+same-length-4 : tie.Need-same-length-4
+same-length-4 c = search needs
+
+same-length-5 : tie.Need-same-length-5
+same-length-5 c = search needs
+
+same-length-6 : tie.Need-same-length-6
+same-length-6 c = search needs
+
+returns-2 : tie.Need-returns-2
+returns-2 c =
+    let p9 = c .before .before .before .before .before .before .before .before .before in
+    λ h cs ls. constant-refused _ _ _ cs ls _ _ _ (rw (c .before .answer2 .given .1) at (p9 .add-constant .ensures))
+
+pub string-constant-spec : {M : Type 1} → statement M
+string-constant-spec =
+    tie.close
+    (tie.spec
+    add-constant-requires
+    enum-known-answer
+    enum-known-answer-2
+    same-length
+    same-length-2
+    same-length-3
+    returns
+    same-length-4
+    same-length-5
+    same-length-6
+    returns-2)

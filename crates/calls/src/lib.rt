@@ -1,0 +1,411 @@
+// Calls, indexing, names and leaves: the part of rilua's codegen.rs that lowers a node once its sub-expressions are lowered, over the lent buffers.
+// A state and a descriptor go in by value and come back in the answer. Nothing is assumed of either.
+ghost use mathlib.Core.List.{List};
+ghost use mathlib.Core.Path.{_≡_};
+ghost use Prim.Native.Nat.{ℕ, _-_};
+ghost use Rattle.chunk.specs.declared.header.Header.{Header};
+ghost use Rattle.model.specs.Steps.{Buffers, andThen, steppedIs, givenIs, describedIs};
+ghost use Rattle.model.specs.Expressions.{set-multret, above as aboveOf, emit-call, closed-call, is-open, last-argument, set-indexed, code-self, string-constant, resolve-var, leaf-expr, callee as calleeOf};
+ghost use Rattle.emission.specs.Parts.{bufs};
+ghost use Rattle.calls.specs.Parts.{fresh-of, self-of, operand-of, key-of};
+use chunk::header::Header;
+use constants::Added;
+use constants::Found;
+use constants::Val;
+use constants::add_constant;
+use cursor::Text;
+use discharge::exp2anyreg;
+use discharge::exp2nextreg;
+use discharge::exp2rk;
+use discharge::set_c_at;
+use discharge::with_kind;
+use emission::emit_abc;
+use emission::emit_at;
+use emission::reserve_regs;
+use emission::with_free;
+use folding::Numeral;
+use instructions::Instruction;
+use instructions::OpCode;
+use jumps::put_word;
+use jumps::word_at;
+use model::Described;
+use model::ExprContext;
+use model::ExprKind;
+use model::Given;
+use model::State;
+use model::Stepped;
+use nodes::ast::Leaf;
+use nodes::ast::Many;
+use operands::free_expr;
+use operands::is_kind;
+use operands::rk;
+use variables::search_local;
+
+// ---- calls
+
+// The call or vararg gives all its values; an error is refused (difference 4).
+pub fn set_multret(code: &mut [u32], st: State, e: ExprContext) -> Stepped
+    ensures { λ r. ⌜ ((ls ks vs p : List ℕ) → set-multret e st (bufs (now (code .entry)) ls ks vs p) ≡ steppedIs r (bufs (now (code .exit)) ls ks vs p)) ⌝ }
+{
+    let pc = e.info;
+    if is_kind(e, ExprKind::Call) {
+        set_c_at(code, pc, 0);
+        return Stepped::Done(st);
+    }
+    let i = Instruction {
+        raw: word_at(code, pc),
+    };
+    let open = i.set_b(0);
+    let placed = open.set_a((st.free % 256) as u32);
+    put_word(code, pc, placed.raw);
+    reserve_regs(st, 1)
+}
+
+// The register above one; none lies above 255, which is no register.
+fn above(r: usize) -> usize
+    ensures { λ s. ⌜ aboveOf r ≡ s ⌝ }
+{
+    if r < 255 {
+        return r + 1;
+    }
+    255
+}
+
+// The `Call` with B = b, on the line that was current before its arguments; then only its own register is taken.
+pub fn emit_call(
+    code: &mut [u32],
+    lines: &mut [u32],
+    st: State,
+    func: ExprContext,
+    b: usize,
+    line: u32,
+) -> Described
+    ensures { λ r. ⌜ ((ks vs p : List ℕ) → emit-call func b line st (bufs (now (code .entry)) (now (lines .entry)) ks vs p) ≡ describedIs r (bufs (now (code .exit)) (now (lines .exit)) ks vs p)) ⌝ }
+{
+    let base = func.info;
+    let i = Instruction::abc(OpCode::Call, (base % 256) as u32, (b % 512) as u32, 2);
+    let answer = emit_at(code, lines, st, i.raw, line);
+    match answer {
+        Given::Done(s, pc) => Described::Done(
+            with_free(s, above(base)),
+            with_kind(func, ExprKind::Call, pc),
+        ),
+        Given::Refused(k) => Described::Refused(k),
+    }
+}
+
+// The registers above the function's, which are its arguments.
+fn nparams(free: usize, base: usize) -> usize
+    ensures { λ r. ⌜ free - aboveOf base ≡ r ⌝ }
+{
+    let first = above(base);
+    if free < first {
+        return 0;
+    }
+    free - first
+}
+
+// The call of as many arguments as there are registers above the function's.
+pub fn closed_call(
+    code: &mut [u32],
+    lines: &mut [u32],
+    st: State,
+    func: ExprContext,
+    line: u32,
+) -> Described
+    ensures { λ r. ⌜ ((ks vs p : List ℕ) → closed-call func line st (bufs (now (code .entry)) (now (lines .entry)) ks vs p) ≡ describedIs r (bufs (now (code .exit)) (now (lines .exit)) ks vs p)) ⌝ }
+{
+    let n = nparams(st.free, func.info);
+    emit_call(code, lines, st, func, n + 1, line)
+}
+
+// Whether an expression gives a list of values.
+fn is_open(e: ExprContext) -> bool
+    ensures { λ r. ⌜ is-open e ≡ r ⌝ }
+{
+    if is_kind(e, ExprKind::Call) {
+        return true;
+    }
+    is_kind(e, ExprKind::VarArg)
+}
+
+// The last argument and the call.
+pub fn last_argument(
+    code: &mut [u32],
+    lines: &mut [u32],
+    kinds: &mut [u8],
+    values: &mut [u64],
+    pool: &mut [u8],
+    st: State,
+    func: ExprContext,
+    line: u32,
+    e: ExprContext,
+) -> Described
+    ensures { λ r. ⌜ last-argument func line e st (bufs (now (code .entry)) (now (lines .entry)) (now (kinds .entry)) (now (values .entry)) (now (pool .entry))) ≡ describedIs r (bufs (now (code .exit)) (now (lines .exit)) (now (kinds .exit)) (now (values .exit)) (now (pool .exit))) ⌝ }
+{
+    if is_open(e) {
+        let answer = set_multret(code, st, e);
+        return match answer {
+            Stepped::Done(s) => emit_call(code, lines, s, func, 0, line),
+            Stepped::Refused(k) => Described::Refused(k),
+        };
+    }
+    let answer = exp2nextreg(code, lines, kinds, values, pool, st, e);
+    match answer {
+        Described::Done(s, _) => closed_call(code, lines, s, func, line),
+        Described::Refused(k) => Described::Refused(k),
+    }
+}
+
+// ---- indexing
+
+// What the table t has under the key.
+pub fn set_indexed(
+    code: &mut [u32],
+    lines: &mut [u32],
+    kinds: &mut [u8],
+    values: &mut [u64],
+    pool: &mut [u8],
+    st: State,
+    t: ExprContext,
+    key: ExprContext,
+) -> Described
+    ensures { λ r. ⌜ set-indexed t key st (bufs (now (code .entry)) (now (lines .entry)) (now (kinds .entry)) (now (values .entry)) (now (pool .entry))) ≡ describedIs r (bufs (now (code .exit)) (now (lines .exit)) (now (kinds .exit)) (now (values .exit)) (now (pool .exit))) ⌝ }
+{
+    let answer = exp2rk(code, lines, kinds, values, pool, st, key);
+    match answer {
+        Described::Done(s, k) => Described::Done(
+            s,
+            ExprContext {
+                kind: ExprKind::Indexed,
+                info: t.info,
+                aux: rk(k),
+                number: t.number,
+                bits: t.bits,
+                t: t.t,
+                f: t.f,
+            },
+        ),
+        Described::Refused(k) => Described::Refused(k),
+    }
+}
+
+// Of `code_self`: the word, once object and key are operands.
+fn emit_self(
+    code: &mut [u32],
+    lines: &mut [u32],
+    st: State,
+    e: ExprContext,
+    reg: usize,
+    k: ExprContext,
+) -> Described
+    ensures { λ r. ⌜ ((ks vs p : List ℕ) → self-of e reg k st (bufs (now (code .entry)) (now (lines .entry)) ks vs p) ≡ describedIs r (bufs (now (code .exit)) (now (lines .exit)) ks vs p)) ⌝ }
+{
+    let answer = emit_abc(code, lines, st, OpCode::OpSelf, reg, e.info, rk(k));
+    match answer {
+        Given::Done(s, _) => Described::Done(
+            free_expr(s, k),
+            with_kind(e, ExprKind::NonReloc, reg),
+        ),
+        Given::Refused(k) => Described::Refused(k),
+    }
+}
+
+// The key as an operand, once two registers are taken.
+fn self_operand(
+    code: &mut [u32],
+    lines: &mut [u32],
+    kinds: &mut [u8],
+    values: &mut [u64],
+    pool: &mut [u8],
+    st: State,
+    e: ExprContext,
+    reg: usize,
+    key: ExprContext,
+) -> Described
+    ensures { λ r. ⌜ operand-of e reg key st (bufs (now (code .entry)) (now (lines .entry)) (now (kinds .entry)) (now (values .entry)) (now (pool .entry))) ≡ describedIs r (bufs (now (code .exit)) (now (lines .exit)) (now (kinds .exit)) (now (values .exit)) (now (pool .exit))) ⌝ }
+{
+    let answer = exp2rk(code, lines, kinds, values, pool, st, key);
+    match answer {
+        Described::Done(s, k) => emit_self(code, lines, s, e, reg, k),
+        Described::Refused(k) => Described::Refused(k),
+    }
+}
+
+// Two registers, for the function and for the object behind it, which is in a register.
+fn self_key(
+    code: &mut [u32],
+    lines: &mut [u32],
+    kinds: &mut [u8],
+    values: &mut [u64],
+    pool: &mut [u8],
+    st: State,
+    e: ExprContext,
+    key: ExprContext,
+) -> Described
+    ensures { λ r. ⌜ key-of e key st (bufs (now (code .entry)) (now (lines .entry)) (now (kinds .entry)) (now (values .entry)) (now (pool .entry))) ≡ describedIs r (bufs (now (code .exit)) (now (lines .exit)) (now (kinds .exit)) (now (values .exit)) (now (pool .exit))) ⌝ }
+{
+    let freed = free_expr(st, e);
+    let answer = reserve_regs(freed, 2);
+    match answer {
+        Stepped::Done(s) => self_operand(code, lines, kinds, values, pool, s, e, freed.free, key),
+        Stepped::Refused(k) => Described::Refused(k),
+    }
+}
+
+// A method and its object.
+pub fn code_self(
+    code: &mut [u32],
+    lines: &mut [u32],
+    kinds: &mut [u8],
+    values: &mut [u64],
+    pool: &mut [u8],
+    st: State,
+    e: ExprContext,
+    key: ExprContext,
+) -> Described
+    ensures { λ r. ⌜ code-self e key st (bufs (now (code .entry)) (now (lines .entry)) (now (kinds .entry)) (now (values .entry)) (now (pool .entry))) ≡ describedIs r (bufs (now (code .exit)) (now (lines .exit)) (now (kinds .exit)) (now (values .exit)) (now (pool .exit))) ⌝ }
+{
+    let answer = exp2anyreg(code, lines, kinds, values, pool, st, e);
+    match answer {
+        Described::Done(s, d) => self_key(code, lines, kinds, values, pool, s, d, key),
+        Described::Refused(k) => Described::Refused(k),
+    }
+}
+
+// ---- names and leaves
+
+// The index of a text's constant.
+pub fn string_constant(
+    chunk: &[u8],
+    kinds: &mut [u8],
+    values: &mut [u64],
+    pool: &mut [u8],
+    st: State,
+    t: Text,
+) -> Given
+    ensures { λ r. ⌜ ((h : Header) (cs ls : List ℕ) → string-constant (now (chunk .entry)) h t st (bufs cs ls (now (kinds .entry)) (now (values .entry)) (now (pool .entry))) ≡ givenIs r (bufs cs ls (now (kinds .exit)) (now (values .exit)) (now (pool .exit)))) ⌝ }
+{
+    let v = Val::Text {
+        start: t.start,
+        len: t.len,
+    };
+    let answer = add_constant(kinds, values, pool, chunk, st.table, v);
+    match answer {
+        Added::At(i, table) => Given::Done(
+            State {
+                at: st.at,
+                line: st.line,
+                pc: st.pc,
+                table,
+                active: st.active,
+                free: st.free,
+                frame: st.frame,
+                jpc: st.jpc,
+                label: st.label,
+            },
+            i,
+        ),
+        Added::Refused(k) => Given::Refused(k),
+    }
+}
+
+// A new descriptor of this kind, whose info is the number that was given.
+fn fresh(answer: Given, kind: ExprKind) -> Described
+    ensures { λ r. ⌜ ((m : Buffers) → andThen (givenIs answer m) (fresh-of kind) ≡ describedIs r m) ⌝ }
+{
+    match answer {
+        Given::Done(s, n) => Described::Done(s, ExprContext::new(kind, n)),
+        Given::Refused(k) => Described::Refused(k),
+    }
+}
+
+// A local by its last name, else a global.
+pub fn resolve_var(
+    chunk: &[u8],
+    h: Header,
+    kinds: &mut [u8],
+    values: &mut [u64],
+    pool: &mut [u8],
+    st: State,
+    t: Text,
+) -> Described
+    ensures { λ r. ⌜ ((cs ls : List ℕ) → resolve-var (now (chunk .entry)) h t st (bufs cs ls (now (kinds .entry)) (now (values .entry)) (now (pool .entry))) ≡ describedIs r (bufs cs ls (now (kinds .exit)) (now (values .exit)) (now (pool .exit)))) ⌝ }
+{
+    let found = search_local(chunk, h, t);
+    match found {
+        Found::At(i) => Described::Done(st, ExprContext::new(ExprKind::Local, i)),
+        Found::Nothing => {
+            let answer = string_constant(chunk, kinds, values, pool, st, t);
+            fresh(answer, ExprKind::Global)
+        }
+    }
+}
+
+// A node with no sub-expression.
+pub fn leaf_expr(
+    chunk: &[u8],
+    h: Header,
+    code: &mut [u32],
+    lines: &mut [u32],
+    kinds: &mut [u8],
+    values: &mut [u64],
+    pool: &mut [u8],
+    st: State,
+    leaf: Leaf,
+) -> Described
+    ensures { λ r. ⌜ leaf-expr (now (chunk .entry)) h leaf st (bufs (now (code .entry)) (now (lines .entry)) (now (kinds .entry)) (now (values .entry)) (now (pool .entry))) ≡ describedIs r (bufs (now (code .exit)) (now (lines .exit)) (now (kinds .exit)) (now (values .exit)) (now (pool .exit))) ⌝ }
+{
+    match leaf {
+        Leaf::Nil => Described::Done(st, ExprContext::new(ExprKind::Nil, 0)),
+        Leaf::True => Described::Done(st, ExprContext::new(ExprKind::True, 0)),
+        Leaf::False => Described::Done(st, ExprContext::new(ExprKind::False, 0)),
+        Leaf::Number(b) => Described::Done(st, ExprContext::number(Numeral::from_bits(b))),
+        Leaf::Str(t) => {
+            let answer = string_constant(chunk, kinds, values, pool, st, t);
+            fresh(answer, ExprKind::K)
+        }
+        Leaf::VarArg => {
+            let answer = emit_abc(code, lines, st, OpCode::VarArg, 0, 1, 0);
+            fresh(answer, ExprKind::VarArg)
+        }
+        Leaf::Name(t) => resolve_var(chunk, h, kinds, values, pool, st, t),
+    }
+}
+
+// ---- the function of a call
+
+// The function of a call in its register, with the object behind it for a method.
+pub fn callee(
+    chunk: &[u8],
+    code: &mut [u32],
+    lines: &mut [u32],
+    kinds: &mut [u8],
+    values: &mut [u64],
+    pool: &mut [u8],
+    st: State,
+    m: Many,
+    e: ExprContext,
+) -> Described
+    ensures { λ r. ⌜ ((h : Header) → calleeOf (now (chunk .entry)) h m e st (bufs (now (code .entry)) (now (lines .entry)) (now (kinds .entry)) (now (values .entry)) (now (pool .entry))) ≡ describedIs r (bufs (now (code .exit)) (now (lines .exit)) (now (kinds .exit)) (now (values .exit)) (now (pool .exit)))) ⌝ }
+{
+    match m {
+        Many::Call => exp2nextreg(code, lines, kinds, values, pool, st, e),
+        Many::MethodCall(t) => {
+            let object = exp2anyreg(code, lines, kinds, values, pool, st, e);
+            match object {
+                Described::Done(s, d) => {
+                    let answer = string_constant(chunk, kinds, values, pool, s, t);
+                    match answer {
+                        Given::Done(u, k) => {
+                            let key = ExprContext::new(ExprKind::K, k);
+                            code_self(code, lines, kinds, values, pool, u, d, key)
+                        }
+                        Given::Refused(k) => Described::Refused(k),
+                    }
+                }
+                Described::Refused(k) => Described::Refused(k),
+            }
+        }
+    }
+}

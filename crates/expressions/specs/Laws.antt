@@ -1,0 +1,66 @@
+-- What follows a sub-expression, step by step: what a definition comes to once its first step's answer is known, as the code reads it. Assumes nothing.
+use Prim.Native.Nat.{ℕ}
+use mathlib.Core.List.{List}
+use mathlib.Core.Path.{_≡_, refl, ap, _∙_}
+use Rattle.refusals.specs.declared.Refusal.{Refusal}
+use Rattle.cursor.specs.declared.Text.{Text}
+use Rattle.nodes.specs.declared.ast.BinOp.{BinOp}
+use Rattle.nodes.specs.declared.ast.UnOp.{UnOp}
+use Rattle.nodes.specs.declared.ast.One.the-variants as one
+use Rattle.nodes.specs.declared.ast.Two.the-variants as two
+use Rattle.nodes.specs.declared.ast.Head.{Head}
+use Rattle.chunk.specs.declared.header.Header.{Header}
+use Rattle.model.specs.declared.ExprContext.{ExprContext}
+use Rattle.model.specs.declared.State.{State}
+use Rattle.model.specs.declared.Described.{Described}
+use Rattle.model.specs.declared.Described.the-variants as described
+use Rattle.model.specs.Steps.{Buffers, Step, Result, refused, andThen, describedIs}
+use Rattle.model.specs.Discharge.{discharge-vars, exp2anyreg}
+use Rattle.model.specs.Operators.{before-right, after-right, code-unop}
+use Rattle.model.specs.Expressions.{set-indexed, after-one, between, after-two}
+use Rattle.calls.specs.Laws.{then-done, then-refused, keyed}
+use Rattle.expressions.specs.Parts.{first-of}
+
+-- an answer of a descriptor goes on, or is refused
+module _ (f : ExprContext → Step ExprContext) (m : Buffers) {a : Described} where
+  pub goes-on : {t : State} {e : ExprContext} {r : Result ExprContext} → a ≡ described.Done t e → f e t m ≡ r → andThen (describedIs a m) f ≡ r
+  goes-on q z = then-done f (ap (λ (x : Described). describedIs x m) q) ∙ z
+
+  pub stops : {r : Refusal} → a ≡ described.Refused r → andThen (describedIs a m) f ≡ refused r m
+  stops q = then-refused f (ap (λ (x : Described). describedIs x m) q)
+
+module _ (chunk : List ℕ) (h : Header) where
+  module _ (e : ExprContext) (s : State) (m : Buffers) where
+    pub one-unary : (o : UnOp) → after-one chunk h (one.Unary o) e s m ≡ code-unop o e s m
+    unfolding after-one
+    one-unary o = refl
+
+    pub one-paren : after-one chunk h one.Paren e s m ≡ discharge-vars e s m
+    unfolding after-one
+    one-paren = refl
+
+    pub one-field : (n : Text) → after-one chunk h (one.Field n) e s m ≡ keyed chunk h set-indexed e n s m
+    unfolding after-one
+    one-field n = refl
+
+    pub between-binary : (o : BinOp) → between chunk h (two.Binary o) e s m ≡ before-right o e s m
+    unfolding between
+    between-binary o = refl
+
+    pub between-index : between chunk h two.Index e s m ≡ exp2anyreg e s m
+    unfolding between
+    between-index = refl
+
+  module _ (e₁ e₂ : ExprContext) (s : State) (m : Buffers) where
+    pub two-binary : (o : BinOp) → after-two chunk h (two.Binary o) e₁ e₂ s m ≡ after-right o e₁ e₂ s m
+    unfolding after-two
+    two-binary o = refl
+
+    pub two-index : after-two chunk h two.Index e₁ e₂ s m ≡ set-indexed e₁ e₂ s m
+    unfolding after-two
+    two-index = refl
+
+  -- behind the first sub-expression of a node of a known kind
+  pub first-told : (m : Buffers) {a : Described} {x y : Head} {t : State} {e : ExprContext} {r : Result ExprContext} →
+      a ≡ described.Done t e → x ≡ y → first-of chunk h y e t m ≡ r → andThen (describedIs a m) (first-of chunk h x) ≡ r
+  first-told m {x = x} {t = t} {e = e} q w z = goes-on (first-of chunk h x) m q (ap (λ (v : Head). first-of chunk h v e t m) w ∙ z)

@@ -1,0 +1,159 @@
+-- Each way through the recursion, with what holds on the way, in the code's order. Assumes nothing.
+use Prim.Native.Nat.{ℕ, zero, suc, _-_, _<_}
+use mathlib.Core.List.{List}
+use mathlib.Core.Path.{_≡_, refl, ap, _∙_}
+use native.Mathlib.Omega.{arith}
+use Rattle.refusals.specs.declared.Refusal.{Refusal}
+use Rattle.refusals.specs.declared.Refusal.the-variants.{Nesting}
+use Rattle.nodes.specs.Nodes.{nodeAt}
+use Rattle.nodes.specs.declared.ast.Leaf.{Leaf}
+use Rattle.nodes.specs.declared.ast.One.{One}
+use Rattle.nodes.specs.declared.ast.Two.{Two}
+use Rattle.nodes.specs.declared.ast.Many.{Many}
+use Rattle.nodes.specs.declared.ast.Head.{Head}
+use Rattle.nodes.specs.declared.ast.Head.the-variants as head
+use Rattle.nodes.specs.declared.ast.Node.{Node}
+use Rattle.nodes.specs.declared.node.NodeRead.{NodeRead}
+use Rattle.nodes.specs.declared.node.NodeRead.the-variants as read
+use Rattle.chunk.specs.declared.header.Header.{Header}
+use Rattle.model.specs.declared.ExprContext.{ExprContext}
+use Rattle.model.specs.declared.State.{State}
+use Rattle.model.specs.Steps.{Buffers, Step, Result, done, refused, andThen, _>>=_, return, get}
+use Rattle.model.specs.Emission.{with-place}
+use Rattle.model.specs.Discharge.{exp2nextreg}
+use Rattle.model.specs.Expressions.{closed-call, last-argument, compile-funcargs, leaf-expr, after-two, compile-head, compile-node, compile-expr}
+use Rattle.calls.specs.Laws.{then-done, then-refused}
+use Rattle.expressions.specs.Parts.{first-of}
+
+-- ---- an expression
+
+-- steps in a row may be taken together, and giving what was given is no step
+together : {A B C : Type 0} (x : Result A) (f : A → Step B) (g : B → Step C) → andThen x (λ (a : A) (s : State) (m : Buffers). andThen (f a s m) g) ≡ andThen (andThen x f) g
+unfolding andThen
+together (done a s m) f g = refl
+together (refused k m) f g = refl
+
+given : {A : Type 0} (x : Result A) → x ≡ andThen x (λ (a : A). return a)
+unfolding andThen
+given (done a s m) = refl
+given (refused k m) = refl
+
+module _ (chunk : List ℕ) (h : Header) where
+  -- what follows the first sub-expression and what belongs to it
+  abbrev rest-of : Step ExprContext → Head → ExprContext → Step ExprContext
+  rest-of f (head.Leaf l) e = return e
+  rest-of f (head.One o) e = return e
+  rest-of f (head.Two t) e = do
+    d ← f
+    after-two chunk h t e d
+  rest-of f (head.Many m n) e = do
+    s ← get
+    compile-funcargs f e (s .line) n
+
+  abbrev Inner : Head → Type 0
+  Inner x = (l : Leaf) → x ≡ head.Leaf l → ⊥
+
+  -- a node that is no leaf: its first sub-expression, and the rest
+  in-turn : (f : Step ExprContext) (x : Head) (s : State) (m : Buffers) → Inner x → compile-head chunk h f x s m ≡ andThen (andThen (f s m) (first-of chunk h x)) (rest-of f x)
+  unfolding compile-head
+  in-turn f (head.Leaf l) s m i = absurd (i l refl)
+  in-turn f (head.One o) s m i = given _
+  in-turn f (head.Two t) s m i = together (f s m) (first-of chunk h (head.Two t)) (rest-of f (head.Two t))
+  in-turn f (head.Many x n) s m i = together (f s m) (first-of chunk h (head.Many x n)) (rest-of f (head.Many x n))
+
+  module _ (left : ℕ) (s : State) (m : Buffers) where
+    pub expr-none : left ≡ 0 → compile-expr chunk h left s m ≡ refused Nesting m
+    unfolding compile-expr
+    expr-none e = ap (λ (n : ℕ). compile-expr chunk h n s m) e
+
+    module _ (some : left ≡ 0 → ⊥) {n : NodeRead} (at : nodeAt chunk (h .varargs) (s .at) (s .line) ≡ n) where
+      more : compile-expr chunk h left s m ≡ compile-node chunk h (compile-expr chunk h (left - 1)) n s m
+      unfolding compile-expr andThen
+      more = go left some ∙ ap (λ (x : NodeRead). compile-node chunk h (compile-expr chunk h (left - 1)) x s m) at
+        where
+          go : (k : ℕ) → (k ≡ 0 → ⊥) → compile-expr chunk h k s m ≡ compile-node chunk h (compile-expr chunk h (k - 1)) (nodeAt chunk (h .varargs) (s .at) (s .line)) s m
+          go zero i = absurd (i refl)
+          go (suc k) i = let q : suc k - 1 ≡ k = omega arith in rw q
+
+      pub expr-refused : {r : Refusal} → n ≡ read.Refused r → compile-expr chunk h left s m ≡ refused r m
+      expr-refused q = more ∙ ap (λ (x : NodeRead). compile-node chunk h (compile-expr chunk h (left - 1)) x s m) q
+
+      module _ {d : Node} (q : n ≡ read.Node d) {u : State} (w : with-place (d .next) (d .line) s ≡ u) where
+        abbrev lowered : Head → Result ExprContext
+        lowered x = compile-head chunk h (compile-expr chunk h (left - 1)) x u m
+
+        headed : compile-expr chunk h left s m ≡ lowered (d .head)
+        unfolding andThen
+        headed =
+            more
+            ∙ ap (λ (x : NodeRead). compile-node chunk h (compile-expr chunk h (left - 1)) x s m) q
+            ∙ ap (λ (v : State). compile-head chunk h (compile-expr chunk h (left - 1)) (d .head) v m) w
+
+        pub expr-leaf : {l : Leaf} {r : Result ExprContext} → d .head ≡ head.Leaf l → leaf-expr chunk h l u m ≡ r → compile-expr chunk h left s m ≡ r
+        unfolding compile-head
+        expr-leaf i z = headed ∙ ap lowered i ∙ z
+
+        module _ (inner : Inner (d .head)) {y : Result ExprContext} (f : compile-expr chunk h (left - 1) u m ≡ y) where
+          abbrev onward : Head → ExprContext → Step ExprContext
+          onward x = rest-of (compile-expr chunk h (left - 1)) x
+
+          firsts : compile-expr chunk h left s m ≡ andThen (andThen y (first-of chunk h (d .head))) (onward (d .head))
+          firsts =
+              headed
+              ∙ in-turn (compile-expr chunk h (left - 1)) (d .head) u m inner
+              ∙ ap (λ (v : Result ExprContext). andThen (andThen v (first-of chunk h (d .head))) (onward (d .head))) f
+
+          pub expr-stopped : {r : Refusal} {o : Buffers} → andThen y (first-of chunk h (d .head)) ≡ refused r o → compile-expr chunk h left s m ≡ refused r o
+          expr-stopped g = firsts ∙ then-refused (onward (d .head)) g
+
+          module _ {e : ExprContext} {t : State} {o : Buffers} (g : andThen y (first-of chunk h (d .head)) ≡ done e t o) where
+            told : {x : Head} {r : Result ExprContext} → d .head ≡ x → onward x e t o ≡ r → compile-expr chunk h left s m ≡ r
+            told i z = firsts ∙ then-done (onward (d .head)) g ∙ ap (λ (x : Head). onward x e t o) i ∙ z
+
+            pub expr-one : {x : One} → d .head ≡ head.One x → compile-expr chunk h left s m ≡ done e t o
+            expr-one i = told i refl
+
+            pub expr-two : {x : Two} {v r : Result ExprContext} → d .head ≡ head.Two x → compile-expr chunk h (left - 1) t o ≡ v → andThen v (after-two chunk h x e) ≡ r → compile-expr chunk h left s m ≡ r
+            expr-two {x} i c z = told i (ap (λ (w : Result ExprContext). andThen w (after-two chunk h x e)) c ∙ z)
+
+            pub expr-many : {x : Many} {c : ℕ} {r : Result ExprContext} → d .head ≡ head.Many x c →
+                compile-funcargs (compile-expr chunk h (left - 1)) e (t .line) c t o ≡ r → compile-expr chunk h left s m ≡ r
+            unfolding andThen
+            expr-many i z = told i z
+
+-- ---- arguments
+
+module _ (f : Step ExprContext) (func : ExprContext) (line n : ℕ) (s : State) (m : Buffers) where
+  pub args-none : n ≡ 0 → compile-funcargs f func line n s m ≡ closed-call func line s m
+  unfolding compile-funcargs
+  args-none e = ap (λ (k : ℕ). compile-funcargs f func line k s m) e
+
+  pub args-last : {e : ExprContext} {t : State} {k : Buffers} → n ≡ 1 → f s m ≡ done e t k → compile-funcargs f func line n s m ≡ last-argument func line e t k
+  unfolding compile-funcargs
+  args-last i q = ap (λ (k : ℕ). compile-funcargs f func line k s m) i ∙ then-done (λ (e : ExprContext). last-argument func line e) q
+
+  module _ (some : 0 < n) where
+    pub args-stopped : {r : Refusal} {k : Buffers} → f s m ≡ refused r k → compile-funcargs f func line n s m ≡ refused r k
+    unfolding compile-funcargs
+    args-stopped {r} {k} q = go n some
+      where
+        go : (i : ℕ) → 0 < i → compile-funcargs f func line i s m ≡ refused r k
+        go zero l = absurd (omega arith)
+        go (suc zero) l = then-refused _ q
+        go (suc (suc i)) l = then-refused _ q
+
+    module _ (many : n ≡ 1 → ⊥) {e : ExprContext} {t : State} {k : Buffers} (q : f s m ≡ done e t k) where
+      further : compile-funcargs f func line n s m ≡ andThen (exp2nextreg e t k) (λ _. compile-funcargs f func line (n - 1))
+      unfolding compile-funcargs
+      further = go n some many
+        where
+          go : (i : ℕ) → 0 < i → (i ≡ 1 → ⊥) → compile-funcargs f func line i s m ≡ andThen (exp2nextreg e t k) (λ _. compile-funcargs f func line (i - 1))
+          go zero l c = absurd (omega arith)
+          go (suc zero) l c = absurd (c refl)
+          go (suc (suc i)) l c = then-done _ q ∙ let z : suc (suc i) - 1 ≡ suc i = omega arith in rw z
+
+      pub args-more : {d : ExprContext} {u : State} {o : Buffers} → exp2nextreg e t k ≡ done d u o → compile-funcargs f func line n s m ≡ compile-funcargs f func line (n - 1) u o
+      args-more z = further ∙ then-done (λ _. compile-funcargs f func line (n - 1)) z
+
+      pub args-full : {r : Refusal} {o : Buffers} → exp2nextreg e t k ≡ refused r o → compile-funcargs f func line n s m ≡ refused r o
+      args-full z = further ∙ then-refused (λ _. compile-funcargs f func line (n - 1)) z

@@ -1,0 +1,106 @@
+-- That the hypotheses of `faithful` can be met: P5 and P12 of document 01 are accepted with buffers that just fit, so their runs are their readings, whatever the outside and the varargs.
+-- By computing the form and the lowering.
+use Prim.Native.Nat.{ℕ, zero, suc}
+use mathlib.Core.Bool.{Bool, true, false}
+use mathlib.Core.Path.{_≡_, refl, sym, subst}
+use mathlib.Core.List.{List, [], _∷_}
+use native.Mathlib.Omega.{arith}
+use lib.ListN.{length}
+use lib.Dec.{ltb, T, ltb→lt}
+use Rattle.buffers.specs.Pad.{pad}
+use Rattle.instructions.specs.Field.{getAt, setAt}
+use Rattle.instructions.specs.OpCodes.{opCodeOf}
+use Rattle.instructions.specs.Word.{sbxOf, excess, abcOf, aBxOf}
+use Rattle.folding.specs.Floor.{floor}
+use Rattle.folding.specs.Folding.{foldOf}
+use Rattle.constants.specs.Entry.{entryOf, sameBytes, same, holds}
+use Rattle.constants.specs.Table.{find, append, added}
+use Rattle.cursor.specs.Fields.{hasBytes, byteAt, lineAt, bitsAt, textAt}
+use Rattle.nodes.specs.Kinds.{kindOf}
+use Rattle.nodes.specs.Nodes.{fieldsAt, nodeAt}
+use Rattle.nodes.specs.Operators.{binOpOf, unOpOf}
+use Rattle.chunk.specs.Ast.{spans, spansOf}
+use Rattle.chunk.specs.Form.{exprsAt, rest, exprAt, ended, formOf}
+use Rattle.chunk.specs.Headers.{namesAt, formulasAt, headerAt}
+use Rattle.model.specs.Conditions.{pop, invertjump, jumponcond, jump-if-false, jump-if-true, goiftrue, goiffalse, emit-not, negate, code-not}
+use Rattle.model.specs.Discharge.{discharge-kind, free-expr, load-kind, discharge2reg, discharge2anyreg, land, load-both, settle, join-jump, exp2reg, exp2nextreg, exp2anyreg, exp2val, small, near, rk-kind, exp2rk}
+use Rattle.model.specs.Emission.{discharge-jpc, push, emit-at, emit, concat, emit-jump, patch-to-here, get-label, code-label, load-nil, emit-nil, check-stack, reserve-regs, alloc-reg, free-reg, add-constant}
+use Rattle.model.specs.Expressions.{search-local, set-multret, above, emit-call, closed-call, last-argument, compile-funcargs, set-indexed, code-self, resolve-var, leaf-expr, after-one, between, after-two, callee, compile-head, compile-expr}
+use Rattle.model.specs.Jumps.{jump-list, get-jump-target, patch-jump, last-jump, linked, get-jump-control, need-value, retest, patch-test-reg, remove-values, patch-list-aux}
+use Rattle.model.specs.Operators.{free-in-turn, free-both, emit-arith, code-arith, code-unary, code-concat, far-numeral, compare-operands, emit-comp, code-comp, operand, before-right, code-and, code-or, join-concat, after-right, code-unop}
+use Rattle.model.specs.Steps.{andThen}
+use lib.Ieee.{span, climb, size, odd, units, round, neg, sum, add, sub, mul, div, lt, eq, le, ne, ofInt, ofFields, ofBits, nanBits, toBits, isNan}
+use Rattle.model.specs.Lowering.{formulas, lower-chunk, lower-formed, lowered}
+use Rattle.chunk.specs.Ast.{Chunk}
+use Rattle.chunk.specs.Form.{formed}
+use Rattle.model.specs.declared.Counts.{Counts}
+use Rattle.model.specs.declared.Lowered.the-variants as answer
+use Rattle.model.specs.Lowering.{Sizes}
+use Rattle.model.specs.Rows.{nils}
+use Rattle.model.specs.Values.{Value, World}
+use Rattle.simulation.specs.Texts.{Bytes}
+use Rattle.faithful.specs.Faithful.{Runs-as-read, faithful}
+
+-- whether each entry is a byte
+unfoldable all-bytes : List ℕ → Bool
+all-bytes [] = true
+all-bytes (b ∷ s) = elim (ltb b 256) [ true ↦ all-bytes s | false ↦ false ]
+
+each-byte : (s : List ℕ) → all-bytes s ≡ true → Bytes s
+unfolding all-bytes
+each-byte [] h i = omega arith
+each-byte (b ∷ s) h i = go (ltb b 256) refl h (each-byte s) i
+  where
+    go : (t : Bool) → ltb b 256 ≡ t → elim t as (λ (_ : Bool). Bool) [ true ↦ all-bytes s | false ↦ false ] ≡ true → (all-bytes s ≡ true → Bytes s) → Bytes (b ∷ s)
+    go false e z r i = absurd (let u : _≡_ {A = ℕ} 0 1 = cc in omega arith)
+    go true e z r zero = ltb→lt b 256 (subst T (sym e) tt)
+    go true e z r (suc i) = r z i
+
+-- accepted: the form, and the counts
+record Met (z : Sizes) (chunk : List ℕ) : Type 0 where
+  tree : Chunk
+  form : formOf chunk ≡ formed tree
+  no-names : 0 ≡ length (tree .names)
+  counts : Counts
+  answers : lowered z chunk .answer ≡ answer.Done counts
+
+-- the run of what is accepted, whatever the outside and the varargs
+runs : (z : Sizes) (chunk : List ℕ) → Bytes chunk → (h : Met z chunk) (w : World) (varargs : List Value) → Runs-as-read chunk (h .tree) w [] varargs (h .counts) (lowered z chunk .buffers)
+runs z chunk b h w varargs = faithful z chunk b (h .tree) (h .form) (h .counts) (h .answers) w [] varargs (h .no-names)
+
+-- P5: ((1 or false) and true) or false
+abbrev p5 : List ℕ
+p5 = 0 ∷ 1 ∷ 7 ∷ 8 ∷ 14 ∷ 7 ∷ 8 ∷ 13 ∷ 7 ∷ 8 ∷ 14 ∷ 3 ∷ 2 ∷ 0 ∷ 0 ∷ 0 ∷ 0 ∷ 0 ∷ 0 ∷ 240 ∷ 63 ∷ 2 ∷ 0 ∷ 1 ∷ 0 ∷ 2 ∷ 0 ∷ []
+
+abbrev for-p5 : Sizes
+for-p5 = record { code = 10; lines = 10; kinds = 1; values = 1; pool = 0; scratch = 14 }
+
+p5-met : Met for-p5 p5
+unfolding pad getAt setAt opCodeOf sbxOf excess abcOf aBxOf floor foldOf entryOf sameBytes same holds find append added hasBytes byteAt lineAt bitsAt textAt kindOf fieldsAt nodeAt binOpOf unOpOf spans spansOf exprsAt rest exprAt ended formOf namesAt formulasAt headerAt pop invertjump jumponcond jump-if-false jump-if-true goiftrue goiffalse emit-not negate code-not discharge-kind free-expr load-kind discharge2reg discharge2anyreg land load-both settle join-jump exp2reg exp2nextreg exp2anyreg exp2val small near rk-kind exp2rk discharge-jpc push emit-at emit concat emit-jump patch-to-here get-label code-label load-nil emit-nil check-stack reserve-regs alloc-reg free-reg add-constant search-local set-multret above emit-call closed-call last-argument compile-funcargs set-indexed code-self resolve-var leaf-expr after-one between after-two callee compile-head compile-expr jump-list get-jump-target patch-jump last-jump linked get-jump-control need-value retest patch-test-reg remove-values patch-list-aux formulas lower-chunk lower-formed lowered free-in-turn free-both emit-arith code-arith code-unary code-concat far-numeral compare-operands emit-comp code-comp operand before-right code-and code-or join-concat after-right code-unop andThen span climb size odd units round neg sum add sub mul div lt eq le ne ofInt ofFields ofBits nanBits toBits isNan
+p5-met = record { tree = _; form = refl; no-names = refl; counts = record { words = 10; constants = 1; text = 0; frame = 2 }; answers = refl }
+
+p5-bytes : Bytes p5
+unfolding all-bytes
+p5-bytes = each-byte p5 refl
+
+-- P12: 248 nils, then f(...)
+abbrev p12 : List ℕ
+p12 = 2 ∷ 249 ∷ nils 248 (12 ∷ 16 ∷ 1 ∷ 6 ∷ 4 ∷ 1 ∷ 0 ∷ 102 ∷ 5 ∷ 0 ∷ [])
+
+abbrev for-p12 : Sizes
+for-p12 = record { code = 4; lines = 4; kinds = 1; values = 1; pool = 1; scratch = 502 }
+
+p12-met : Met for-p12 p12
+unfolding pad getAt setAt opCodeOf sbxOf excess abcOf aBxOf floor foldOf entryOf sameBytes same holds find append added hasBytes byteAt lineAt bitsAt textAt kindOf fieldsAt nodeAt binOpOf unOpOf spans spansOf exprsAt rest exprAt ended formOf namesAt formulasAt headerAt pop invertjump jumponcond jump-if-false jump-if-true goiftrue goiffalse emit-not negate code-not discharge-kind free-expr load-kind discharge2reg discharge2anyreg land load-both settle join-jump exp2reg exp2nextreg exp2anyreg exp2val small near rk-kind exp2rk discharge-jpc push emit-at emit concat emit-jump patch-to-here get-label code-label load-nil emit-nil check-stack reserve-regs alloc-reg free-reg add-constant search-local set-multret above emit-call closed-call last-argument compile-funcargs set-indexed code-self resolve-var leaf-expr after-one between after-two callee compile-head compile-expr jump-list get-jump-target patch-jump last-jump linked get-jump-control need-value retest patch-test-reg remove-values patch-list-aux formulas lower-chunk lower-formed lowered free-in-turn free-both emit-arith code-arith code-unary code-concat far-numeral compare-operands emit-comp code-comp operand before-right code-and code-or join-concat after-right code-unop andThen span climb size odd units round neg sum add sub mul div lt eq le ne ofInt ofFields ofBits nanBits toBits isNan nils
+p12-met = record { tree = _; form = refl; no-names = refl; counts = record { words = 4; constants = 1; text = 1; frame = 250 }; answers = refl }
+
+p12-bytes : Bytes p12
+unfolding all-bytes nils
+p12-bytes = each-byte p12 refl
+
+-- the theorem on both
+p5-runs : (w : World) (varargs : List Value) → Runs-as-read p5 (p5-met .tree) w [] varargs (p5-met .counts) (lowered for-p5 p5 .buffers)
+p5-runs w varargs = runs for-p5 p5 p5-bytes p5-met w varargs
+
+p12-runs : (w : World) (varargs : List Value) → Runs-as-read p12 (p12-met .tree) w [] varargs (p12-met .counts) (lowered for-p12 p12 .buffers)
+p12-runs w varargs = runs for-p12 p12 p12-bytes p12-met w varargs

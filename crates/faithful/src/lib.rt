@@ -1,0 +1,1 @@
+// Proof only: demand 3, one theorem for the whole chunk.

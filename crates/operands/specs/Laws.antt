@@ -1,0 +1,50 @@
+-- Operands step by step: what a definition comes to once its tests and its steps' answers are known, as the code reads it. Assumes nothing.
+use Prim.Native.Nat.{ℕ, _+_, _%_, _<_, _≤_}
+use mathlib.Core.Bool.{Bool, true, false}
+use mathlib.Core.Path.{_≡_, ap, _∙_}
+use lib.Dec.{ltb}
+use borrow.Author.Tests.{lt-ltb, le-ltb}
+use Rattle.instructions.specs.Limits.{bitRk}
+use Rattle.model.specs.declared.ExprKind.the-variants.{K, NonReloc}
+use Rattle.model.specs.declared.ExprContext.{ExprContext}
+use Rattle.model.specs.declared.State.{State}
+use Rattle.model.specs.Steps.{Buffers, Step, done, andThen, skip}
+use Rattle.model.specs.Descriptor.{isKind}
+use Rattle.model.specs.Emission.{free-reg}
+use Rattle.model.specs.Discharge.{free-expr, rk}
+use Rattle.model.specs.Operators.{free-in-turn, free-both}
+
+-- if then else
+abbrev branch : {A : Type 0} → Bool → Step A → Step A → Step A
+branch b x y = elim b [ true ↦ x | false ↦ y ]
+
+module _ (e : ExprContext) where
+  abbrev operand : Bool → ℕ
+  operand b = elim b [ true ↦ e .info % bitRk + bitRk | false ↦ e .info ]
+
+  pub rk-constant : isKind K e ≡ true → rk e ≡ e .info % bitRk + bitRk
+  rk-constant h = ap operand h
+
+  pub rk-register : isKind K e ≡ false → rk e ≡ e .info
+  rk-register h = ap operand h
+
+module _ (e : ExprContext) (s : State) (m : Buffers) where
+  pub freed : {t : State} → isKind NonReloc e ≡ true → free-reg (e .info) s m ≡ done tt t m → free-expr e s m ≡ done tt t m
+  unfolding free-expr
+  freed h f = ap (λ (b : Bool). branch b (free-reg (e .info)) skip s m) h ∙ f
+
+  pub not-freed : isKind NonReloc e ≡ false → free-expr e s m ≡ done tt s m
+  unfolding free-expr
+  not-freed h = ap (λ (b : Bool). branch b (free-reg (e .info)) skip s m) h
+
+abbrev in-turn : ExprContext → ExprContext → Bool → Step (Unit {0})
+in-turn e₁ e₂ b = branch b (free-in-turn e₁ e₂) (free-in-turn e₂ e₁)
+
+module _ (e₁ e₂ : ExprContext) (s : State) (m : Buffers) {x y : ℕ} (p : rk e₁ ≡ x) (q : rk e₂ ≡ y) where
+  pub free-left : {t u : State} → y < x → free-expr e₁ s m ≡ done tt t m → free-expr e₂ t m ≡ done tt u m → free-both e₁ e₂ s m ≡ done tt u m
+  unfolding free-both free-in-turn andThen
+  free-left l h i = ap (λ (b : Bool). in-turn e₁ e₂ b s m) (ap (λ (a : ℕ). ltb a (rk e₁)) q ∙ ap (λ (a : ℕ). ltb y a) p ∙ lt-ltb y x l) ∙ simp (free-in-turn, h, i)
+
+  pub free-right : {t u : State} → x ≤ y → free-expr e₂ s m ≡ done tt t m → free-expr e₁ t m ≡ done tt u m → free-both e₁ e₂ s m ≡ done tt u m
+  unfolding free-both free-in-turn andThen
+  free-right l h i = ap (λ (b : Bool). in-turn e₁ e₂ b s m) (ap (λ (a : ℕ). ltb a (rk e₁)) q ∙ ap (λ (a : ℕ). ltb y a) p ∙ le-ltb y x l) ∙ simp (free-in-turn, h, i)

@@ -1,0 +1,67 @@
+-- Parts of the definitions that the code has functions for: two operands as RK, and what follows the operands. Assumes nothing.
+use Prim.Native.Nat.{ℕ, _-_}
+use mathlib.Core.Bool.{Bool, true, false, _&&_}
+use Rattle.instructions.specs.Word.{setBOf}
+use Rattle.instructions.specs.declared.OpCode.the-variants as op
+use Rattle.folding.specs.declared.Arith.{Arith}
+use Rattle.model.specs.declared.ExprKind.the-variants.{Jmp, Relocable}
+use Rattle.model.specs.declared.ExprContext.{ExprContext}
+use Rattle.model.specs.Steps.{Buffers, Result, done, refused, Step, _>>=_, _>>_, return, words}
+use Rattle.model.specs.Descriptor.{is, jumps, isKind}
+use Rattle.model.specs.Jumps.{word, isOp}
+use Rattle.model.specs.Discharge.{change-word, free-expr, exp2nextreg, exp2anyreg, exp2rk, rk}
+use Rattle.model.specs.Operators.{arithOp, free-both, code-concat}
+use Rattle.conditions.specs.Parts.{relocable}
+use Rattle.operators.specs.declared.Both.{Both}
+use Rattle.operators.specs.declared.Both.the-variants as both
+
+-- two operands as RK, in turn, and what the answer stands for
+abbrev pub both-rk : ExprContext → ExprContext → Step (ExprContext × ExprContext)
+both-rk x y = do
+  a ← exp2rk x
+  b ← exp2rk y
+  return (a, b)
+
+abbrev pub bothIs : Both → Buffers → Result (ExprContext × ExprContext)
+bothIs (both.Done s a b) m = done (a, b) s m
+bothIs (both.Refused k) m = refused k m
+
+-- the second of two
+abbrev pub chosen : Bool → ExprContext → ExprContext → ExprContext
+chosen true x y = y
+chosen false x y = x
+
+-- of arithmetic and of a comparison: what follows the operands
+abbrev pub arith-of : Arith → ExprContext → ExprContext → Step ExprContext
+arith-of o b c = do
+  free-both b c
+  relocable (arithOp o) (rk b) (rk c) b
+
+abbrev pub jump-of : ExprContext → ℕ → Step ExprContext
+jump-of b list = return (jumps 0 0 (is Jmp (list - 1) b))
+
+-- of `code-concat`: what follows both operands, or the right one
+abbrev pub concat-word : ExprContext → ExprContext → Step ExprContext
+concat-word b c = do
+  free-expr c
+  free-expr b
+  relocable op.Concat (b .info) (c .info) b
+
+abbrev pub concat-left : ExprContext → ExprContext → Step ExprContext
+concat-left e₁ c = do
+  b ← exp2anyreg e₁
+  concat-word b c
+
+-- of `join-concat`: what follows `exp2val`
+abbrev pub joined-to : ExprContext → ExprContext → Step ExprContext
+joined-to e₁ e₂ = do
+  code ← words
+  elim (isKind Relocable e₂ && isOp op.Concat (word code (e₂ .info))) [
+    | true ↦ do
+      free-expr e₁
+      change-word (e₂ .info) (λ w. setBOf w (e₁ .info))
+      return (is Relocable (e₂ .info) e₁)
+    | false ↦ do
+      e₄ ← exp2nextreg e₂
+      code-concat e₁ e₄
+  ]

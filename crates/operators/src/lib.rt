@@ -1,0 +1,568 @@
+// Operators: infix, postfix and prefix, with folding, arithmetic, comparisons and concatenation (rilua's codegen.rs), over the lent buffers.
+// A state and descriptors go in by value and come back in the answer. Nothing is assumed of either.
+ghost use mathlib.Core.List.{List};
+ghost use mathlib.Core.Path.{_≡_};
+ghost use Prim.Native.Nat.{ℕ};
+ghost use Rattle.model.specs.Steps.{Buffers, done, andThen, givenIs, describedIs};
+ghost use Rattle.model.specs.Descriptor.{is-numeral};
+ghost use Rattle.model.specs.Operators.{arithOp, const-fold, with-number, code-arith, code-unary, code-concat, is-far, far-numeral, either as eitherOf, emit-comp, code-comp, operand as operandOf, before-right, code-and, code-or, join-concat, after-right, code-unop};
+ghost use Rattle.emission.specs.Parts.{bufs};
+ghost use Rattle.operators.specs.Parts.{bothIs, both-rk, chosen, arith-of, jump-of, concat-word, concat-left, joined-to};
+use conditions::bit;
+use conditions::code_not;
+use conditions::emit_relocable;
+use conditions::emit_test;
+use conditions::emit_unary;
+use conditions::goiffalse;
+use conditions::goiftrue;
+use conditions::is_relocable;
+use conditions::less_one;
+use constants::Found;
+use constants::Val;
+use constants::find;
+use discharge::discharge_vars;
+use discharge::exp2anyreg;
+use discharge::exp2nextreg;
+use discharge::exp2rk;
+use discharge::exp2val;
+use discharge::set_b_at;
+use discharge::with_jumps;
+use discharge::with_kind;
+use folding::Arith;
+use folding::Fold;
+use folding::Numeral;
+use instructions::OpCode;
+use jumps::concat_jumps;
+use model::Described;
+use model::ExprContext;
+use model::ExprKind;
+use model::Given;
+use model::State;
+use nodes::ast::BinOp;
+use nodes::ast::UnOp;
+use operands::Form;
+use operands::form_of;
+use operands::free_both;
+use operands::free_expr;
+use operands::is_kind;
+use operands::rk;
+use refusals::Refusal;
+
+// A step that gives two descriptors.
+enum Both {
+    Done(State, ExprContext, ExprContext),
+    Refused(Refusal),
+}
+
+// ---- folding
+
+fn is_numeral(e: ExprContext) -> bool
+    ensures { λ r. ⌜ is-numeral e ≡ r ⌝ }
+{
+    if is_kind(e, ExprKind::KNum) {
+        if e.t == 0 {
+            return e.f == 0;
+        }
+    }
+    false
+}
+
+// Of numerals without jumps.
+fn const_fold(op: Arith, e1: ExprContext, e2: ExprContext) -> Fold
+    ensures { λ r. ⌜ const-fold op e1 e2 ≡ r ⌝ }
+{
+    if is_numeral(e1) {
+        if is_numeral(e2) {
+            return folding::const_fold(op, e1.number, e2.number);
+        }
+    }
+    Fold::Kept
+}
+
+// The descriptor with another number.
+fn with_number(e: ExprContext, n: Numeral) -> ExprContext
+    ensures { λ r. ⌜ with-number n e ≡ r ⌝ }
+{
+    let kind = e.kind;
+    ExprContext {
+        kind,
+        info: e.info,
+        aux: e.aux,
+        number: n.value,
+        bits: n.bits,
+        t: e.t,
+        f: e.f,
+    }
+}
+
+// ---- arithmetic
+
+fn arith_op(op: Arith) -> OpCode
+    ensures { λ r. ⌜ arithOp op ≡ r ⌝ }
+{
+    match op {
+        Arith::Add => OpCode::Add,
+        Arith::Sub => OpCode::Sub,
+        Arith::Mul => OpCode::Mul,
+        Arith::Div => OpCode::Div,
+        Arith::Mod => OpCode::Mod,
+        Arith::Pow => OpCode::Pow,
+        Arith::Unm => OpCode::Unm,
+    }
+}
+
+// Two operands as RK, in turn.
+fn both_rk(
+    code: &mut [u32],
+    lines: &mut [u32],
+    kinds: &mut [u8],
+    values: &mut [u64],
+    pool: &mut [u8],
+    st: State,
+    x: ExprContext,
+    y: ExprContext,
+) -> Both
+    ensures { λ r. ⌜ both-rk x y st (bufs (now (code .entry)) (now (lines .entry)) (now (kinds .entry)) (now (values .entry)) (now (pool .entry))) ≡ bothIs r (bufs (now (code .exit)) (now (lines .exit)) (now (kinds .exit)) (now (values .exit)) (now (pool .exit))) ⌝ }
+{
+    let first = exp2rk(code, lines, kinds, values, pool, st, x);
+    match first {
+        Described::Done(s, a) => {
+            let second = exp2rk(code, lines, kinds, values, pool, s, y);
+            match second {
+                Described::Done(u, b) => Both::Done(u, a, b),
+                Described::Refused(k) => Both::Refused(k),
+            }
+        }
+        Described::Refused(k) => Both::Refused(k),
+    }
+}
+
+// The word of two RK operands.
+fn arith_word(
+    code: &mut [u32],
+    lines: &mut [u32],
+    st: State,
+    op: Arith,
+    b: ExprContext,
+    c: ExprContext,
+) -> Described
+    ensures { λ r. ⌜ ((ks vs p : List ℕ) → arith-of op b c st (bufs (now (code .entry)) (now (lines .entry)) ks vs p) ≡ describedIs r (bufs (now (code .exit)) (now (lines .exit)) ks vs p)) ⌝ }
+{
+    let s = free_both(st, b, c);
+    emit_relocable(code, lines, s, arith_op(op), rk(b), rk(c), b)
+}
+
+// For + - * / % ^. The right operand goes to RK first.
+pub fn code_arith(
+    code: &mut [u32],
+    lines: &mut [u32],
+    kinds: &mut [u8],
+    values: &mut [u64],
+    pool: &mut [u8],
+    st: State,
+    op: Arith,
+    e1: ExprContext,
+    e2: ExprContext,
+) -> Described
+    ensures { λ r. ⌜ code-arith op e1 e2 st (bufs (now (code .entry)) (now (lines .entry)) (now (kinds .entry)) (now (values .entry)) (now (pool .entry))) ≡ describedIs r (bufs (now (code .exit)) (now (lines .exit)) (now (kinds .exit)) (now (values .exit)) (now (pool .exit))) ⌝ }
+{
+    let folded = const_fold(op, e1, e2);
+    match folded {
+        Fold::Folded(n) => Described::Done(st, with_number(e1, n)),
+        Fold::Kept => {
+            let answer = both_rk(code, lines, kinds, values, pool, st, e2, e1);
+            match answer {
+                Both::Done(s, c, b) => arith_word(code, lines, s, op, b, c),
+                Both::Refused(k) => Described::Refused(k),
+            }
+        }
+    }
+}
+
+// For a unary operator, whose operand is a register.
+pub fn code_unary(
+    code: &mut [u32],
+    lines: &mut [u32],
+    kinds: &mut [u8],
+    values: &mut [u64],
+    pool: &mut [u8],
+    st: State,
+    op: OpCode,
+    e: ExprContext,
+) -> Described
+    ensures { λ r. ⌜ code-unary op e st (bufs (now (code .entry)) (now (lines .entry)) (now (kinds .entry)) (now (values .entry)) (now (pool .entry))) ≡ describedIs r (bufs (now (code .exit)) (now (lines .exit)) (now (kinds .exit)) (now (values .exit)) (now (pool .exit))) ⌝ }
+{
+    let answer = exp2anyreg(code, lines, kinds, values, pool, st, e);
+    match answer {
+        Described::Done(s, d) => emit_unary(code, lines, s, op, d),
+        Described::Refused(k) => Described::Refused(k),
+    }
+}
+
+// The word of two registers, one above the other.
+fn concat_registers(
+    code: &mut [u32],
+    lines: &mut [u32],
+    st: State,
+    b: ExprContext,
+    c: ExprContext,
+) -> Described
+    ensures { λ r. ⌜ ((ks vs p : List ℕ) → concat-word b c st (bufs (now (code .entry)) (now (lines .entry)) ks vs p) ≡ describedIs r (bufs (now (code .exit)) (now (lines .exit)) ks vs p)) ⌝ }
+{
+    let s = free_expr(free_expr(st, c), b);
+    emit_relocable(code, lines, s, OpCode::Concat, b.info, c.info, b)
+}
+
+// The left operand goes to a register, the right one being in the next.
+fn concat_onto(
+    code: &mut [u32],
+    lines: &mut [u32],
+    kinds: &mut [u8],
+    values: &mut [u64],
+    pool: &mut [u8],
+    st: State,
+    e1: ExprContext,
+    c: ExprContext,
+) -> Described
+    ensures { λ r. ⌜ concat-left e1 c st (bufs (now (code .entry)) (now (lines .entry)) (now (kinds .entry)) (now (values .entry)) (now (pool .entry))) ≡ describedIs r (bufs (now (code .exit)) (now (lines .exit)) (now (kinds .exit)) (now (values .exit)) (now (pool .exit))) ⌝ }
+{
+    let answer = exp2anyreg(code, lines, kinds, values, pool, st, e1);
+    match answer {
+        Described::Done(s, b) => concat_registers(code, lines, s, b, c),
+        Described::Refused(k) => Described::Refused(k),
+    }
+}
+
+// For `Concat`, whose operands are registers one above the other.
+pub fn code_concat(
+    code: &mut [u32],
+    lines: &mut [u32],
+    kinds: &mut [u8],
+    values: &mut [u64],
+    pool: &mut [u8],
+    st: State,
+    e1: ExprContext,
+    e2: ExprContext,
+) -> Described
+    ensures { λ r. ⌜ code-concat e1 e2 st (bufs (now (code .entry)) (now (lines .entry)) (now (kinds .entry)) (now (values .entry)) (now (pool .entry))) ≡ describedIs r (bufs (now (code .exit)) (now (lines .exit)) (now (kinds .exit)) (now (values .exit)) (now (pool .exit))) ⌝ }
+{
+    let answer = exp2nextreg(code, lines, kinds, values, pool, st, e2);
+    match answer {
+        Described::Done(s, c) => concat_onto(code, lines, kinds, values, pool, s, e1, c),
+        Described::Refused(k) => Described::Refused(k),
+    }
+}
+
+// ---- comparisons
+
+// No RK operand can name an entry above 255, nor the next one of a table with 256.
+fn is_far(found: Found, count: usize) -> bool
+    ensures { λ r. ⌜ is-far found count ≡ r ⌝ }
+{
+    match found {
+        Found::At(k) => 255 < k,
+        Found::Nothing => 255 < count,
+    }
+}
+
+// A numeral that is listed above 255, or unlisted with 256 entries or more (difference 2).
+pub fn far_numeral(kinds: &[u8], values: &[u64], pool: &[u8], st: State, e: ExprContext) -> bool
+    ensures { λ r. ⌜ ((cs ls : List ℕ) → far-numeral e st (bufs cs ls (now (kinds .entry)) (now (values .entry)) (now (pool .entry))) ≡ done r st (bufs cs ls (now (kinds .exit)) (now (values .exit)) (now (pool .exit)))) ⌝ }
+{
+    if is_numeral(e) {
+        let v = Val::Number {
+            value: e.number,
+            bits: e.bits,
+        };
+        let none = b"";
+        let table = st.table;
+        let count = table.count;
+        let found = find(kinds, values, pool, none, count, v);
+        return is_far(found, count);
+    }
+    false
+}
+
+// The second where they change places.
+fn either(swapped: bool, b: usize, c: usize) -> usize
+    ensures { λ r. ⌜ eitherOf swapped b c ≡ r ⌝ }
+{
+    if swapped { c } else { b }
+}
+
+// And of descriptors.
+fn choose(second: bool, x: ExprContext, y: ExprContext) -> ExprContext
+    ensures { λ r. ⌜ chosen second x y ≡ r ⌝ }
+{
+    if second {
+        return y;
+    }
+    x
+}
+
+// The jump of a comparison.
+fn compared(answer: Given, b: ExprContext) -> Described
+    ensures { λ r. ⌜ ((m : Buffers) → andThen (givenIs answer m) (jump-of b) ≡ describedIs r m) ⌝ }
+{
+    match answer {
+        Given::Done(s, list) => Described::Done(
+            s,
+            with_jumps(with_kind(b, ExprKind::Jmp, less_one(list)), 0, 0),
+        ),
+        Given::Refused(k) => Described::Refused(k),
+    }
+}
+
+// The comparison of two RK operands, and its jump.
+fn emit_comp(
+    code: &mut [u32],
+    lines: &mut [u32],
+    st: State,
+    op: OpCode,
+    cond: bool,
+    swapped: bool,
+    b: ExprContext,
+    c: ExprContext,
+) -> Described
+    ensures { λ r. ⌜ ((ks vs p : List ℕ) → emit-comp op cond swapped b c st (bufs (now (code .entry)) (now (lines .entry)) ks vs p) ≡ describedIs r (bufs (now (code .exit)) (now (lines .exit)) ks vs p)) ⌝ }
+{
+    let s = free_both(st, b, c);
+    let x = rk(b);
+    let y = rk(c);
+    let answer = emit_test(
+        code,
+        lines,
+        s,
+        op,
+        bit(cond),
+        either(swapped, x, y),
+        either(swapped, y, x),
+    );
+    compared(answer, b)
+}
+
+// The left operand goes to RK first, unless it is a far numeral (difference 2).
+pub fn code_comp(
+    code: &mut [u32],
+    lines: &mut [u32],
+    kinds: &mut [u8],
+    values: &mut [u64],
+    pool: &mut [u8],
+    st: State,
+    op: OpCode,
+    cond: bool,
+    swapped: bool,
+    e1: ExprContext,
+    e2: ExprContext,
+) -> Described
+    ensures { λ r. ⌜ code-comp op cond swapped e1 e2 st (bufs (now (code .entry)) (now (lines .entry)) (now (kinds .entry)) (now (values .entry)) (now (pool .entry))) ≡ describedIs r (bufs (now (code .exit)) (now (lines .exit)) (now (kinds .exit)) (now (values .exit)) (now (pool .exit))) ⌝ }
+{
+    let far = far_numeral(kinds, values, pool, st, e1);
+    let first = choose(far, e1, e2);
+    let second = choose(far, e2, e1);
+    let answer = both_rk(code, lines, kinds, values, pool, st, first, second);
+    match answer {
+        Both::Done(s, x, y) => emit_comp(
+            code,
+            lines,
+            s,
+            op,
+            cond,
+            swapped,
+            choose(far, x, y),
+            choose(far, y, x),
+        ),
+        Both::Refused(k) => Described::Refused(k),
+    }
+}
+
+// ---- before and after the right operand
+
+// An operand of arithmetic or of a comparison: numerals wait.
+fn operand(
+    code: &mut [u32],
+    lines: &mut [u32],
+    kinds: &mut [u8],
+    values: &mut [u64],
+    pool: &mut [u8],
+    st: State,
+    e: ExprContext,
+) -> Described
+    ensures { λ r. ⌜ operandOf e st (bufs (now (code .entry)) (now (lines .entry)) (now (kinds .entry)) (now (values .entry)) (now (pool .entry))) ≡ describedIs r (bufs (now (code .exit)) (now (lines .exit)) (now (kinds .exit)) (now (values .exit)) (now (pool .exit))) ⌝ }
+{
+    if is_numeral(e) {
+        return Described::Done(st, e);
+    }
+    exp2rk(code, lines, kinds, values, pool, st, e)
+}
+
+pub fn infix(
+    code: &mut [u32],
+    lines: &mut [u32],
+    kinds: &mut [u8],
+    values: &mut [u64],
+    pool: &mut [u8],
+    st: State,
+    op: BinOp,
+    e: ExprContext,
+) -> Described
+    ensures { λ r. ⌜ before-right op e st (bufs (now (code .entry)) (now (lines .entry)) (now (kinds .entry)) (now (values .entry)) (now (pool .entry))) ≡ describedIs r (bufs (now (code .exit)) (now (lines .exit)) (now (kinds .exit)) (now (values .exit)) (now (pool .exit))) ⌝ }
+{
+    let f = form_of(op);
+    match f {
+        Form::And => goiftrue(code, lines, kinds, values, pool, st, e),
+        Form::Or => goiffalse(code, lines, kinds, values, pool, st, e),
+        Form::Concat => exp2nextreg(code, lines, kinds, values, pool, st, e),
+        _ => operand(code, lines, kinds, values, pool, st, e),
+    }
+}
+
+// The right value, with the jumps of the left.
+fn code_and(
+    code: &mut [u32],
+    lines: &mut [u32],
+    st: State,
+    e1: ExprContext,
+    e2: ExprContext,
+) -> Described
+    ensures { λ r. ⌜ ((ks vs p : List ℕ) → code-and e1 e2 st (bufs (now (code .entry)) (now (lines .entry)) ks vs p) ≡ describedIs r (bufs (now (code .exit)) (now (lines .exit)) ks vs p)) ⌝ }
+{
+    let answer = discharge_vars(code, lines, st, e2);
+    match answer {
+        Described::Done(s, d) => {
+            let f = concat_jumps(code, d.f, e1.f);
+            Described::Done(s, with_jumps(d, d.t, f))
+        }
+        Described::Refused(k) => Described::Refused(k),
+    }
+}
+
+fn code_or(
+    code: &mut [u32],
+    lines: &mut [u32],
+    st: State,
+    e1: ExprContext,
+    e2: ExprContext,
+) -> Described
+    ensures { λ r. ⌜ ((ks vs p : List ℕ) → code-or e1 e2 st (bufs (now (code .entry)) (now (lines .entry)) ks vs p) ≡ describedIs r (bufs (now (code .exit)) (now (lines .exit)) ks vs p)) ⌝ }
+{
+    let answer = discharge_vars(code, lines, st, e2);
+    match answer {
+        Described::Done(s, d) => {
+            let t = concat_jumps(code, d.t, e1.t);
+            Described::Done(s, with_jumps(d, t, d.f))
+        }
+        Described::Refused(k) => Described::Refused(k),
+    }
+}
+
+// A concatenation on the right is lengthened to the left; another value goes to the next register.
+fn concat_value(
+    code: &mut [u32],
+    lines: &mut [u32],
+    kinds: &mut [u8],
+    values: &mut [u64],
+    pool: &mut [u8],
+    st: State,
+    e1: ExprContext,
+    e2: ExprContext,
+) -> Described
+    ensures { λ r. ⌜ joined-to e1 e2 st (bufs (now (code .entry)) (now (lines .entry)) (now (kinds .entry)) (now (values .entry)) (now (pool .entry))) ≡ describedIs r (bufs (now (code .exit)) (now (lines .exit)) (now (kinds .exit)) (now (values .exit)) (now (pool .exit))) ⌝ }
+{
+    if is_relocable(code, e2, OpCode::Concat) {
+        set_b_at(code, e2.info, (e1.info % 512) as u32);
+        return Described::Done(
+            free_expr(st, e1),
+            with_kind(e1, ExprKind::Relocable, e2.info),
+        );
+    }
+    let answer = exp2nextreg(code, lines, kinds, values, pool, st, e2);
+    match answer {
+        Described::Done(s, d) => code_concat(code, lines, kinds, values, pool, s, e1, d),
+        Described::Refused(k) => Described::Refused(k),
+    }
+}
+
+fn join_concat(
+    code: &mut [u32],
+    lines: &mut [u32],
+    kinds: &mut [u8],
+    values: &mut [u64],
+    pool: &mut [u8],
+    st: State,
+    e1: ExprContext,
+    e2: ExprContext,
+) -> Described
+    ensures { λ r. ⌜ join-concat e1 e2 st (bufs (now (code .entry)) (now (lines .entry)) (now (kinds .entry)) (now (values .entry)) (now (pool .entry))) ≡ describedIs r (bufs (now (code .exit)) (now (lines .exit)) (now (kinds .exit)) (now (values .exit)) (now (pool .exit))) ⌝ }
+{
+    let answer = exp2val(code, lines, kinds, values, pool, st, e2);
+    match answer {
+        Described::Done(s, d) => concat_value(code, lines, kinds, values, pool, s, e1, d),
+        Described::Refused(k) => Described::Refused(k),
+    }
+}
+
+pub fn postfix(
+    code: &mut [u32],
+    lines: &mut [u32],
+    kinds: &mut [u8],
+    values: &mut [u64],
+    pool: &mut [u8],
+    st: State,
+    op: BinOp,
+    e1: ExprContext,
+    e2: ExprContext,
+) -> Described
+    ensures { λ r. ⌜ after-right op e1 e2 st (bufs (now (code .entry)) (now (lines .entry)) (now (kinds .entry)) (now (values .entry)) (now (pool .entry))) ≡ describedIs r (bufs (now (code .exit)) (now (lines .exit)) (now (kinds .exit)) (now (values .exit)) (now (pool .exit))) ⌝ }
+{
+    let f = form_of(op);
+    match f {
+        Form::And => code_and(code, lines, st, e1, e2),
+        Form::Or => code_or(code, lines, st, e1, e2),
+        Form::Concat => join_concat(code, lines, kinds, values, pool, st, e1, e2),
+        Form::Arithmetic(a) => code_arith(code, lines, kinds, values, pool, st, a, e1, e2),
+        Form::Comparison(o, cond, swapped) => {
+            code_comp(
+                code,
+                lines,
+                kinds,
+                values,
+                pool,
+                st,
+                o,
+                cond,
+                swapped,
+                e1,
+                e2,
+            )
+        }
+    }
+}
+
+// ---- unary operators
+
+// A negated numeral is folded; the operand of `Unm` and of `Len` is a register (difference 6).
+pub fn prefix(
+    code: &mut [u32],
+    lines: &mut [u32],
+    kinds: &mut [u8],
+    values: &mut [u64],
+    pool: &mut [u8],
+    st: State,
+    op: UnOp,
+    e: ExprContext,
+) -> Described
+    ensures { λ r. ⌜ code-unop op e st (bufs (now (code .entry)) (now (lines .entry)) (now (kinds .entry)) (now (values .entry)) (now (pool .entry))) ≡ describedIs r (bufs (now (code .exit)) (now (lines .exit)) (now (kinds .exit)) (now (values .exit)) (now (pool .exit))) ⌝ }
+{
+    match op {
+        UnOp::Neg => {
+            let folded = const_fold(Arith::Unm, e, ExprContext::new(ExprKind::KNum, 0));
+            match folded {
+                Fold::Folded(n) => Described::Done(st, with_number(e, n)),
+                Fold::Kept => code_unary(code, lines, kinds, values, pool, st, OpCode::Unm, e),
+            }
+        }
+        UnOp::Not => code_not(code, lines, kinds, values, pool, st, e),
+        UnOp::Len => code_unary(code, lines, kinds, values, pool, st, OpCode::Len, e),
+    }
+}

@@ -1,0 +1,9 @@
+pub mod Clean
+pub mod Lengths
+pub mod Emission
+pub mod Discharge
+pub mod Conditions
+pub mod Operators
+pub mod Expressions
+pub mod Lowering
+pub mod Padded

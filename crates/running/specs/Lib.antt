@@ -1,0 +1,10 @@
+pub mod Registers
+pub mod Reaching
+pub mod Decoding
+pub mod Operands
+pub mod Plain
+pub mod Calls
+pub mod Arriving
+pub mod Jumps
+pub mod Run
+pub mod Examples
