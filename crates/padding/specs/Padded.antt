@@ -1,9 +1,10 @@
--- DEMAND 1 over the definitions. For every chunk of bytes and all lengths of the lent buffers: a refusal leaves zeros only; success leaves in each buffer as many numbers as the counts say and then zeros, and no two constants are equal.
+-- DEMAND 1 over the definitions. For every chunk of bytes and all lengths of the lent buffers: a refusal leaves zeros only; success leaves in each buffer as many numbers as the counts say and then zeros, each listed entry is a constant, no two are equal, and texts lie in the counted bytes.
 -- The words' tail is zero because the labelled code is represented, the others' because each step keeps them; the scratch holds the places by definition.
 use Prim.Native.Nat.{ℕ, zero, suc, _-_, _≤_, _<_}
 use mathlib.Core.Bool.{Bool, true, false}
 use mathlib.Core.Path.{_≡_, refl, sym, ap, _∙_, subst}
 use mathlib.Core.List.{List, [], _∷_, _++_}
+use mathlib.Core.Option.{some}
 use native.Mathlib.Nat.{sub-zero, suc-sub-suc}
 use native.Mathlib.Omega.{arith}
 use lib.ListN.{length, getD, take}
@@ -12,7 +13,8 @@ use borrow.Author.Tests.{leb-true}
 use Rattle.refusals.specs.declared.Refusal.{Refusal}
 use Rattle.refusals.specs.declared.Refusal.the-variants as refusal
 use Rattle.buffers.specs.Pad.{zeros, pad-fits}
-use Rattle.constants.specs.Distinct.{constantAt}
+use Rattle.constants.specs.Entry.{Constant}
+use Rattle.constants.specs.Distinct.{constantAt, Inside}
 use Rattle.chunk.specs.Ast.{Chunk, spansOf}
 use Rattle.chunk.specs.Form.{Formed, formed, refused as unformed, formOf}
 use Rattle.chunk.specs.Headers.{headerAt}
@@ -47,6 +49,9 @@ pub record Left (z : Sizes) (chunk : List ℕ) (k : Counts) (m : Buffers) (scrat
   pub kinds : Filled (z .kinds) (k .constants) (m .kinds)
   pub values : Filled (z .values) (k .constants) (m .values)
   pub pool : Filled (z .pool) (k .text) (m .pool)
+  pub entries : (i : ℕ) → i < k .constants → (c : Constant) × (constantAt (m .pool) (m .kinds) (m .values) i ≡ some c)
+  pub texts : (i : ℕ) → i < k .constants → getD (m .kinds) i 0 ≡ 4 → Inside (k .text) (getD (m .values) i 0)
+  pub frame : k .frame ≤ 250
   pub differ : (i j : ℕ) → i < j → j < k .constants → constantAt (m .pool) (m .kinds) (m .values) i ≡ constantAt (m .pool) (m .kinds) (m .values) j → ⊥
   pub tree : Chunk
   pub form : formOf chunk ≡ formed tree
@@ -91,6 +96,9 @@ module _ (z : Sizes) (chunk : List ℕ) where
       kinds = filled (s .table .count) (m .kinds) (g .kinds-length) (subst (λ n. s .table .count ≤ n) (g .kinds-length) (L .table .good .kinds-fit)) (g .kinds);
       values = filled (s .table .count) (m .values) (g .values-length) (subst (λ n. s .table .count ≤ n) (g .values-length) (L .table .good .values-fit)) (g .values);
       pool = filled (s .table .used) (m .pool) (g .pool-length) (subst (λ n. s .table .used ≤ n) (g .pool-length) (L .table .good .texts-fit)) (g .pool);
+      entries = L .table .good .constants;
+      texts = L .table .good .texts;
+      frame = L .most;
       differ = L .table .good .differ;
       tree = c;
       form = form;

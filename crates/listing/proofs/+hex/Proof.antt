@@ -1,0 +1,125 @@
+use native.Mathlib.Omega.{arith}
+use Rattle.listing.specs.Laws.{hex-none, hex-more}
+use Prim.Native.Nat.{ℕ, _<_}
+use borrow.Fn.Kinds.{In}
+use borrow.Fn.PlainCycle.{Measures, is, falls, and}
+use Rattle.listing.proofs.hex.Reads as hex
+use Rattle.listing.proofs.hex.Kinds as hex-kinds
+use Rattle.listing.proofs.+hex.Lts-hex as hex-lts
+use Rattle.listing.proofs.hex_digit.Reads as hex-digit-reads
+use Rattle.listing.proofs.put.Reads as put-reads
+use Rattle.listing.proofs.+hex.{statement}
+use Rattle.listing.proofs.+hex.Tie.{close}
+
+abbrev μ-hex : Measures 1 hex-kinds.ps ℕ
+μ-hex κs a = a .1 .1 .1 .0
+
+abbrev hex-at : ℕ → In 1 hex-kinds.ps
+hex-at t = and 1 hex-kinds.ps (is 1 hex-kinds.ps μ-hex t) hex.Pre
+
+abbrev hex-below : ℕ → In 1 hex-kinds.ps
+hex-below t = and 1 hex-kinds.ps (falls 1 hex-kinds.ps _<_ μ-hex t) hex.Pre
+
+-- src/lib.rt:91:9
+hex-returns : (t : ℕ) → hex-lts.Need-returns (
+  hex-below t,
+  hex.Post,
+  hex-digit-reads.Asked,
+  hex-digit-reads.Learnt,
+  put-reads.Asked,
+  put-reads.Learnt,
+) (hex-at t) hex.Post
+hex-returns t c = hex-none _ _ _ _ (c .if1 .taken)
+
+-- src/lib.rt:93:35
+hex-sub-hex : (t : ℕ) → hex-lts.Need-sub-hex (
+  hex-below t,
+  hex.Post,
+  hex-digit-reads.Asked,
+  hex-digit-reads.Learnt,
+  put-reads.Asked,
+  put-reads.Learnt,
+) (hex-at t) hex.Post
+hex-sub-hex t c = omega (arith, (c .before .if1 .left))
+
+-- src/lib.rt:93:9
+hex-hex-requires : (t : ℕ) → hex-lts.Need-hex-requires (
+  hex-below t,
+  hex.Post,
+  hex-digit-reads.Asked,
+  hex-digit-reads.Learnt,
+  put-reads.Asked,
+  put-reads.Learnt,
+) (hex-at t) hex.Post
+hex-hex-requires t c κs =
+    let p3 = c .before .before .before in
+    (omega (arith, (p3 .pre .0), (c .before .if1 .left)), tt)
+
+-- src/lib.rt:94:17
+hex-hex-digit-requires : (t : ℕ) → hex-lts.Need-hex-digit-requires (
+  hex-below t,
+  hex.Post,
+  hex-digit-reads.Asked,
+  hex-digit-reads.Learnt,
+  put-reads.Asked,
+  put-reads.Learnt,
+) (hex-at t) hex.Post
+hex-hex-digit-requires t c κs = tt
+
+-- src/lib.rt:94:5
+hex-put-requires : (t : ℕ) → hex-lts.Need-put-requires (
+  hex-below t,
+  hex.Post,
+  hex-digit-reads.Asked,
+  hex-digit-reads.Learnt,
+  put-reads.Asked,
+  put-reads.Learnt,
+) (hex-at t) hex.Post
+hex-put-requires t c κs = tt
+
+-- src/lib.rt:87:1
+hex-same-length : (t : ℕ) → hex-lts.Need-same-length (
+  hex-below t,
+  hex.Post,
+  hex-digit-reads.Asked,
+  hex-digit-reads.Learnt,
+  put-reads.Asked,
+  put-reads.Learnt,
+) (hex-at t) hex.Post
+hex-same-length t c =
+    let p7 = c .before .before .before .before .before .before .before in
+    omega (arith, (c .before .before .put .kept), (p7 .hex .kept))
+
+-- src/lib.rt:87:1
+hex-returns-2 : (t : ℕ) → hex-lts.Need-returns-2 (
+  hex-below t,
+  hex.Post,
+  hex-digit-reads.Asked,
+  hex-digit-reads.Learnt,
+  put-reads.Asked,
+  put-reads.Learnt,
+) (hex-at t) hex.Post
+hex-returns-2 t c =
+    let p3 = c .before .before .before in
+    let p7 = p3 .before .before .before .before in
+    let p9 = p7 .before .before in
+    hex-more _ _ _ _ (p9 .if1 .left) (p7 .hex .ensures) (p3 .hex-digit .ensures) (c .before .before .put .ensures)
+
+pub +hex-spec : {M : Type 1} → statement M
++hex-spec = close μ-hex λ t. hex-lts.spec (
+  hex-below t,
+  hex.Post,
+  hex-digit-reads.Asked,
+  hex-digit-reads.Learnt,
+  put-reads.Asked,
+  put-reads.Learnt,
+)
+    (hex-at t)
+    hex.Post
+    (hex-returns t)
+    (hex-sub-hex t)
+    (hex-hex-requires t)
+    (hex-hex-digit-requires t)
+    (hex-put-requires t)
+    (hex-same-length t)
+    (hex-returns-2 t)

@@ -1,0 +1,32 @@
+-- Parts of the definitions that the code has functions for, and the lengths of lent buffers. Assumes nothing.
+use Prim.Native.Nat.{ℕ, _+_}
+use mathlib.Core.List.{List}
+use lib.ListN.{length}
+use Rattle.instructions.specs.declared.OpCode.the-variants as op
+use Rattle.buffers.specs.Pad.{zeros, pad}
+use Rattle.chunk.specs.declared.header.Header.{Header}
+use Rattle.chunk.specs.Headers.{headerAt}
+use Rattle.model.specs.declared.Lowered.{Lowered}
+use Rattle.model.specs.declared.Lowered.the-variants as answer
+use Rattle.model.specs.Steps.{Buffers, Step, _>>=_, _>>_, skip}
+use Rattle.model.specs.Emission.{emit-abc}
+use Rattle.model.specs.Lowering.{Sizes, start, lower-chunk, Out, ended, with-header}
+
+-- the lengths of these buffers and of a scratch of n numbers
+abbrev pub sizes : Buffers → ℕ → Sizes
+sizes m n = record { code = length (m .code); lines = length (m .lines); kinds = length (m .kinds); values = length (m .values); pool = length (m .pool); scratch = n }
+
+-- the end of `lower-chunk`
+abbrev pub returning : Header → Step (Unit {0})
+returning h = do
+  emit-abc op.Return (h .locals) (h .formulas + 1) 0
+  skip
+
+-- the end of `lower-formed`, from buffers m
+abbrev pub from-header : Sizes → List ℕ → List ℕ → Buffers → Out
+from-header z chunk places m = with-header z (headerAt chunk) λ h. ended z places (lower-chunk chunk h (start (h .next) (h .locals)) m)
+
+-- what a scratch of n numbers then holds
+abbrev pub scratch-of : Lowered → ℕ → List ℕ → List ℕ
+scratch-of (answer.Done k) n places = pad n places
+scratch-of (answer.Refused k) n places = zeros n

@@ -1,0 +1,226 @@
+// The lowering of a whole chunk: the locals' registers, the formulas one after another, `Return`; and the entry `lower`, which clears, checks the form, and lowers (document 01, "Lowering" and "Refused chunks").
+ghost use mathlib.Core.List.{List};
+ghost use mathlib.Core.Path.{_≡_};
+ghost use Prim.Native.Nat.{ℕ};
+ghost use lib.ListN.{length};
+ghost use Rattle.buffers.specs.Pad.{zeros};
+ghost use Rattle.chunk.specs.Form.{maxNesting};
+ghost use Rattle.model.specs.Steps.{steppedIs};
+ghost use Rattle.model.specs.Expressions.{compile-expr};
+ghost use Rattle.model.specs.Lowering.{cleared, start, formulas as formulasOf, lower-chunk, out, lowered};
+ghost use Rattle.emission.specs.Parts.{bufs};
+ghost use Rattle.lowering.specs.Parts.{sizes, returning, from-header, scratch-of};
+ghost use Rattle.lowering.specs.Running.{Faithful};
+ghost use Rattle.padding.specs.Padded.{Padded};
+use buffers::clear_bytes;
+use buffers::clear_values;
+use buffers::clear_words;
+use chunk::form::Form;
+use chunk::form::check_form;
+use chunk::header::Header;
+use chunk::header::HeaderRead;
+use chunk::header::read_header;
+use constants::Table;
+use discharge::exp2nextreg;
+use emission::emit_abc;
+use emission::reserve_regs;
+use expressions::compile_expr;
+use instructions::OpCode;
+use model::Counts;
+use model::Described;
+use model::Given;
+use model::Lowered;
+use model::State;
+use model::Stepped;
+use refusals::Refusal;
+
+// ---- formulas
+
+// Each of n formulas to the next register.
+fn formulas(
+    chunk: &[u8],
+    h: Header,
+    code: &mut [u32],
+    lines: &mut [u32],
+    kinds: &mut [u8],
+    values: &mut [u64],
+    pool: &mut [u8],
+    st: State,
+    n: usize,
+) -> Stepped
+    ensures { λ r. ⌜ formulasOf (compile-expr (now (chunk .entry)) h maxNesting) n st (bufs (now (code .entry)) (now (lines .entry)) (now (kinds .entry)) (now (values .entry)) (now (pool .entry))) ≡ steppedIs r (bufs (now (code .exit)) (now (lines .exit)) (now (kinds .exit)) (now (values .exit)) (now (pool .exit))) ⌝ }
+{
+    let mut s = st;
+    let mut rest = n;
+    while 0 < rest {
+        let formula = compile_expr(chunk, h, code, lines, kinds, values, pool, s, 200);
+        match formula {
+            Described::Done(t, e) => {
+                let placed = exp2nextreg(code, lines, kinds, values, pool, t, e);
+                match placed {
+                    Described::Done(u, _) => {
+                        s = u;
+                        rest -= 1;
+                    }
+                    Described::Refused(k) => {
+                        return Stepped::Refused(k);
+                    }
+                }
+            }
+            Described::Refused(k) => {
+                return Stepped::Refused(k);
+            }
+        }
+    }
+    Stepped::Done(s)
+}
+
+// `Return` with the locals' number, and one more than the formulas'; of that, what fits the field.
+fn add_return(code: &mut [u32], lines: &mut [u32], st: State, h: Header) -> Stepped
+    ensures { λ r. ⌜ ((ks vs p : List ℕ) → returning h st (bufs (now (code .entry)) (now (lines .entry)) ks vs p) ≡ steppedIs r (bufs (now (code .exit)) (now (lines .exit)) ks vs p)) ⌝ }
+{
+    let answer = emit_abc(
+        code,
+        lines,
+        st,
+        OpCode::Return,
+        h.locals,
+        h.formulas % 512 + 1,
+        0,
+    );
+    match answer {
+        Given::Done(s, _) => Stepped::Done(s),
+        Given::Refused(k) => Stepped::Refused(k),
+    }
+}
+
+// The locals take the first registers; the formulas; `Return`.
+fn lower_chunk(
+    chunk: &[u8],
+    h: Header,
+    code: &mut [u32],
+    lines: &mut [u32],
+    kinds: &mut [u8],
+    values: &mut [u64],
+    pool: &mut [u8],
+    st: State,
+) -> Stepped
+    ensures { λ r. ⌜ lower-chunk (now (chunk .entry)) h st (bufs (now (code .entry)) (now (lines .entry)) (now (kinds .entry)) (now (values .entry)) (now (pool .entry))) ≡ steppedIs r (bufs (now (code .exit)) (now (lines .exit)) (now (kinds .exit)) (now (values .exit)) (now (pool .exit))) ⌝ }
+{
+    let reserved = reserve_regs(st, h.locals);
+    match reserved {
+        Stepped::Done(s) => {
+            let lowered = formulas(chunk, h, code, lines, kinds, values, pool, s, h.formulas);
+            match lowered {
+                Stepped::Done(t) => add_return(code, lines, t, h),
+                Stepped::Refused(k) => Stepped::Refused(k),
+            }
+        }
+        Stepped::Refused(k) => Stepped::Refused(k),
+    }
+}
+
+// ---- the entry
+
+// Zeros only; a slice keeps its length.
+fn clear(code: &mut [u32], lines: &mut [u32], kinds: &mut [u8], values: &mut [u64], pool: &mut [u8])
+    ensures { λ _. ⌜ cleared (sizes (bufs (now (code .exit)) (now (lines .exit)) (now (kinds .exit)) (now (values .exit)) (now (pool .exit))) 0) ≡ bufs (now (code .exit)) (now (lines .exit)) (now (kinds .exit)) (now (values .exit)) (now (pool .exit)) ⌝ }
+{
+    clear_words(code);
+    clear_words(lines);
+    clear_bytes(kinds);
+    clear_values(values);
+    clear_bytes(pool);
+}
+
+fn clear_scratch(scratch: &mut [u32])
+    ensures { λ _. ⌜ zeros (length (now (scratch .exit))) ≡ now (scratch .exit) ⌝ }
+{
+    clear_words(scratch);
+}
+
+// `Proto::new` and `FuncState::new`.
+fn start_at(h: Header) -> State
+    ensures { λ r. ⌜ start (h .next) (h .locals) ≡ r ⌝ }
+{
+    State {
+        at: h.next,
+        line: 1,
+        pc: 0,
+        table: Table { count: 0, used: 0 },
+        active: h.locals,
+        free: 0,
+        frame: 2,
+        jpc: 0,
+        label: 0,
+    }
+}
+
+// The lowering of a chunk that has the form, in buffers that are cleared; a refusal clears them again.
+fn lower_cleared(
+    chunk: &[u8],
+    code: &mut [u32],
+    lines: &mut [u32],
+    kinds: &mut [u8],
+    values: &mut [u64],
+    pool: &mut [u8],
+) -> Lowered
+    ensures { λ r. ⌜ ((n : ℕ) (places : List ℕ) → from-header (sizes (bufs (now (code .entry)) (now (lines .entry)) (now (kinds .entry)) (now (values .entry)) (now (pool .entry))) n) (now (chunk .entry)) places (bufs (now (code .entry)) (now (lines .entry)) (now (kinds .entry)) (now (values .entry)) (now (pool .entry))) ≡ out r (bufs (now (code .exit)) (now (lines .exit)) (now (kinds .exit)) (now (values .exit)) (now (pool .exit))) (scratch-of r n places)) ⌝ }
+{
+    let header = read_header(chunk);
+    match header {
+        HeaderRead::Header(h) => {
+            let lowered = lower_chunk(chunk, h, code, lines, kinds, values, pool, start_at(h));
+            match lowered {
+                Stepped::Done(s) => Lowered::Done(Counts {
+                    words: s.pc,
+                    constants: s.table.count,
+                    text: s.table.used,
+                    frame: s.frame,
+                }),
+                Stepped::Refused(k) => {
+                    clear(code, lines, kinds, values, pool);
+                    Lowered::Refused(k)
+                }
+            }
+        }
+        HeaderRead::Refused(k) => {
+            clear(code, lines, kinds, values, pool);
+            Lowered::Refused(k)
+        }
+    }
+}
+
+// THE ENTRY. Whatever the bytes and however long the buffers: the answer and what each buffer then holds are those of `lowered`, whole. In particular (demand 1) each buffer
+// holds the result and then zeros, or only zeros beside a refusal; and (demand 3) running the words that now stand in `code` is reading the chunk's formulas.
+pub fn lower(
+    chunk: &[u8],
+    code: &mut [u32],
+    lines: &mut [u32],
+    kinds: &mut [u8],
+    values: &mut [u64],
+    pool: &mut [u8],
+    scratch: &mut [u32],
+) -> Lowered
+    ensures { λ r. ⌜ (lowered (sizes (bufs (now (code .entry)) (now (lines .entry)) (now (kinds .entry)) (now (values .entry)) (now (pool .entry))) (length (now (scratch .entry)))) (now (chunk .entry)) ≡ out r (bufs (now (code .exit)) (now (lines .exit)) (now (kinds .exit)) (now (values .exit)) (now (pool .exit))) (now (scratch .exit))) × (Padded (sizes (bufs (now (code .entry)) (now (lines .entry)) (now (kinds .entry)) (now (values .entry)) (now (pool .entry))) (length (now (scratch .entry)))) (now (chunk .entry)) r (bufs (now (code .exit)) (now (lines .exit)) (now (kinds .exit)) (now (values .exit)) (now (pool .exit))) (now (scratch .exit)) × Faithful (now (chunk .entry)) r (bufs (now (code .exit)) (now (lines .exit)) (now (kinds .exit)) (now (values .exit)) (now (pool .exit)))) ⌝ }
+{
+    clear(code, lines, kinds, values, pool);
+    let form = check_form(chunk, scratch);
+    match form {
+        Form::Formed(n) => {
+            if scratch.len() < n {
+                clear_scratch(scratch);
+                return Lowered::Refused(Refusal::Scratch);
+            }
+            let answer = lower_cleared(chunk, code, lines, kinds, values, pool);
+            match answer {
+                Lowered::Done(k) => Lowered::Done(k),
+                Lowered::Refused(k) => {
+                    clear_scratch(scratch);
+                    Lowered::Refused(k)
+                }
+            }
+        }
+        Form::Refused(k) => Lowered::Refused(k),
+    }
+}

@@ -1,0 +1,29 @@
+-- What the program `weavelist` prints, from what it reads (document 01, "The weave list, and cases"). Assumes nothing.
+use Prim.Native.Nat.{ℕ}
+use mathlib.Core.Bool.{true, false}
+use mathlib.Core.List.{List}
+use lib.ListN.{length}
+use lib.Dec.{leb}
+use Rattle.refusals.specs.Number.{numberOf}
+use Rattle.refusals.specs.declared.Refusal.the-variants as refusal
+use Rattle.model.specs.Lowering.{Sizes, Out, lowered}
+use Rattle.listing.specs.Listing.{refusal-line, listing}
+
+-- the buffers that the program lends
+abbrev pub lent : Sizes
+lent = record { code = 8192; lines = 8192; kinds = 2048; values = 2048; pool = 32768; scratch = 16384 }
+
+abbrev pub maxInput : ℕ
+maxInput = 65536
+
+-- the list of a whole lowering
+abbrev pub list-of : Out → List ℕ
+list-of o = listing (o .answer) (o .buffers .code) (o .buffers .lines) (o .buffers .kinds) (o .buffers .values)
+
+-- a longer input prints the line of refusal 1
+unfoldable pub weavelist : List ℕ → List ℕ
+weavelist input =
+    elim (leb (length input) maxInput) [
+      | true ↦ list-of (lowered lent input)
+      | false ↦ refusal-line (numberOf refusal.TooLong)
+    ]

@@ -1,0 +1,115 @@
+// The program `weavelist` as functions: the list of an input, in a lent buffer; and reading, listing, writing.
+ghost use mathlib.Core.Path.{_≡_};
+ghost use lib.ListN.{length};
+ghost use Rattle.emission.specs.Parts.{bufs};
+ghost use Rattle.model.specs.Lowering.{lowered};
+ghost use Rattle.listing.specs.Page.{left, written};
+ghost use Rattle.lowering.specs.Parts.{sizes};
+ghost use Rattle.weave.specs.Weave.{list-of, weavelist as weavelistOf};
+use listing::Listed;
+use listing::listing;
+use lowering::lower;
+use model::Lowered;
+use refusals::Refusal;
+
+// ---- what the program lends: of a fresh buffer only the length is told, since whoever is lent one clears it
+
+fn fresh_words() -> [u32; 8192]
+    ensures { λ r. ⌜ 8192 ≡ length r ⌝ }
+{
+    [0; 8192]
+}
+
+fn fresh_kinds() -> [u8; 2048]
+    ensures { λ r. ⌜ 2048 ≡ length r ⌝ }
+{
+    [0; 2048]
+}
+
+fn fresh_values() -> [u64; 2048]
+    ensures { λ r. ⌜ 2048 ≡ length r ⌝ }
+{
+    [0; 2048]
+}
+
+fn fresh_pool() -> [u8; 32768]
+    ensures { λ r. ⌜ 32768 ≡ length r ⌝ }
+{
+    [0; 32768]
+}
+
+fn fresh_scratch() -> [u32; 16384]
+    ensures { λ r. ⌜ 16384 ≡ length r ⌝ }
+{
+    [0; 16384]
+}
+
+fn fresh_input() -> [u8; 65537]
+    ensures { λ r. ⌜ 65537 ≡ length r ⌝ }
+{
+    [0; 65537]
+}
+
+fn fresh_page() -> [u8; 589824]
+    ensures { λ r. ⌜ 589824 ≡ length r ⌝ }
+{
+    [0; 589824]
+}
+
+// ---- listing
+
+// The list of a chunk's lowering in these buffers.
+fn weave_in(
+    chunk: &[u8],
+    code: &mut [u32],
+    lines: &mut [u32],
+    kinds: &mut [u8],
+    values: &mut [u64],
+    pool: &mut [u8],
+    scratch: &mut [u32],
+    out: &mut [u8],
+) -> Listed
+    ensures { λ r. ⌜ written (length (now (out .entry))) (list-of (lowered (sizes (bufs (now (code .entry)) (now (lines .entry)) (now (kinds .entry)) (now (values .entry)) (now (pool .entry))) (length (now (scratch .entry)))) (now (chunk .entry)))) ≡ left r (now (out .exit)) ⌝ }
+{
+    let answer = lower(chunk, code, lines, kinds, values, pool, scratch);
+    listing(answer, code, lines, kinds, values, out)
+}
+
+// The list of an input of `weavelist`.
+pub fn weave(input: &[u8], out: &mut [u8]) -> Listed
+    ensures { λ r. ⌜ written (length (now (out .entry))) (weavelistOf (now (input .entry))) ≡ left r (now (out .exit)) ⌝ }
+{
+    if input.len() > 65536 {
+        return listing(Lowered::Refused(Refusal::TooLong), &[], &[], &[], &[], out);
+    }
+    let mut code = fresh_words();
+    let mut lines = fresh_words();
+    let mut kinds = fresh_kinds();
+    let mut values = fresh_values();
+    let mut pool = fresh_pool();
+    let mut scratch = fresh_scratch();
+    weave_in(
+        input,
+        &mut code,
+        &mut lines,
+        &mut kinds,
+        &mut values,
+        &mut pool,
+        &mut scratch,
+        out,
+    )
+}
+
+// Reads standard input, one byte more than is allowed at most, and writes its list: no list is longer than the page (`fits`, specs/Fits.antt).
+pub fn weavelist() {
+    let mut input = fresh_input();
+    let n = io::read_full(0, &mut input);
+    let mut page = fresh_page();
+    let listed = weave(&input[..n], &mut page);
+    match listed {
+        Listed::Written(k) => {
+            io::write_all(1, &page[..k]);
+        }
+        Listed::Short => {}
+    }
+}
