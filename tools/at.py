@@ -2,7 +2,7 @@
 # at.py LTS PROOF [PREFIX] < SPEC : answer needs by templates.
 # SPEC: 'use ..' lines go on top; '%%' .. '%%' is a block of lemmas put behind the use lines;
 # 'NEED [unf f g] = template' (continuation lines allowed), NEED may be an fnmatch pattern; first match wins.
-# In a template @@kept stands for the `.kept` of every call that was lent a slice. @thing is the path to the place that has `thing`, so @byte-at.ensures; @START is the entry record; @@ all facts of the path, oldest first.
+# In a template @@kept stands for the `.kept` of every call that was lent a slice. @thing is the path to the place that has `thing`, so @read-byte.ensures; @START is the entry record; @@ all facts of the path, oldest first.
 # Paths deeper than 2 are shared by let.
 import sys,re,subprocess,os,fnmatch
 lts,proof=sys.argv[1:3]; pref=sys.argv[3] if len(sys.argv)>3 else ''

@@ -34,11 +34,8 @@ use Rattle.model.specs.Emission.{with-free, with-table, emit-at, emit-abc, rese
 use Rattle.model.specs.Discharge.{change-word, free-expr, exp2nextreg, exp2anyreg, exp2rk, rk}
 use Rattle.model.specs.Expressions.{search-local, set-multret, above, emit-call, closed-call, is-open, last-argument, set-indexed, code-self, string-constant, resolved, resolve-var, leaf-expr, callee}
 use Rattle.emission.specs.Parts.{bufs}
+use Rattle.emission.specs.Laws.{branch}
 use Rattle.calls.specs.Parts.{fresh-of, self-of, operand-of, key-of}
-
--- if then else
-abbrev branch : {A : Type 0} → Bool → Step A → Step A → Step A
-branch b x y = elim b [ true ↦ x | false ↦ y ]
 
 -- an answer that was found to be one of its kinds
 pub stepped-told : (g : Stepped) (m : Buffers) {x : Result (Unit {0})} {h : Stepped} → x ≡ steppedIs g m → g ≡ h → x ≡ steppedIs h m

@@ -31,7 +31,7 @@ fn skip_names(chunk: &[u8], count: usize, at: usize) -> Skipped
     let mut left = count;
     let mut next = at;
     while 0 < left {
-        let TextRead::Text(t) = cursor::text_at(chunk, next) else {
+        let TextRead::Text(t) = reader::read_text(chunk, next) else {
             return Skipped::Missing;
         };
         next = t.start + t.len;
@@ -44,7 +44,7 @@ fn skip_names(chunk: &[u8], count: usize, at: usize) -> Skipped
 fn read_formulas(chunk: &[u8], locals: usize, names: usize, varargs: bool, at: usize) -> HeaderRead
     ensures { λ r. ⌜ formulasAt (now (chunk .entry)) locals names varargs at ≡ r ⌝ }
 {
-    let ByteRead::Byte(n) = cursor::byte_at(chunk, at) else {
+    let ByteRead::Byte(n) = reader::read_byte(chunk, at) else {
         return HeaderRead::Refused(Refusal::Missing);
     };
     HeaderRead::Header(Header {
@@ -59,7 +59,7 @@ fn read_formulas(chunk: &[u8], locals: usize, names: usize, varargs: bool, at: u
 pub fn read_header(chunk: &[u8]) -> HeaderRead
     ensures { λ r. ⌜ headerAt (now (chunk .entry)) ≡ r ⌝ }
 {
-    let ByteRead::Byte(map) = cursor::byte_at(chunk, 0) else {
+    let ByteRead::Byte(map) = reader::read_byte(chunk, 0) else {
         return HeaderRead::Refused(Refusal::Missing);
     };
     if 3 < map {
@@ -69,7 +69,7 @@ pub fn read_header(chunk: &[u8]) -> HeaderRead
     if map % 2 == 0 {
         return read_formulas(chunk, 0, 1, varargs, 1);
     }
-    let ByteRead::Byte(count) = cursor::byte_at(chunk, 1) else {
+    let ByteRead::Byte(count) = reader::read_byte(chunk, 1) else {
         return HeaderRead::Refused(Refusal::Missing);
     };
     if 200 < count {

@@ -21,12 +21,9 @@ use Rattle.model.specs.Emission.{with-pc, emit-abc, emit-jump, concat, patch-to
 use Rattle.model.specs.Discharge.{discharge-vars, discharge2anyreg, free-expr}
 use Rattle.model.specs.Conditions.{bit, pop, invertjump, is-not, jumponcond, jump-if-false, jump-if-true, goiftrue, goiffalse, emit-not, negate, code-not}
 use Rattle.emission.specs.Parts.{bufs}
+use Rattle.emission.specs.Laws.{branch}
 use Rattle.discharge.specs.Kinds.{kind-is}
 use Rattle.conditions.specs.Parts.{relocable, unary, tested, always-true, always-false, in-register}
-
--- if then else
-abbrev branch : {A : Type 0} → Bool → Step A → Step A → Step A
-branch b x y = elim b [ true ↦ x | false ↦ y ]
 
 -- what holds of a kind holds of a descriptor's own
 pub at-kind : {A : Type 0} (f : ExprKind → Result A) (k : ExprKind) (e : ExprContext) {r : Result A} → isKind k e ≡ true → f k ≡ r → f (e .kind) ≡ r

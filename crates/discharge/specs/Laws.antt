@@ -2,8 +2,8 @@
 use Prim.Native.Nat.{ℕ, _≤_, _<_}
 use mathlib.Core.Bool.{Bool, true, false, not, _||_}
 use mathlib.Core.List.{List, []}
-use mathlib.Core.Path.{_≡_, refl, sym, ap, subst, _∙_}
-use lib.Dec.{eqb, leb}
+use mathlib.Core.Path.{_≡_, refl, ap, subst, _∙_}
+use lib.Dec.{leb}
 use lib.ListN.{length, set}
 use borrow.Author.Tests.{eq-eqb, ne-eqb, le-leb, lt-leb}
 use Rattle.refusals.specs.declared.Refusal.{Refusal}
@@ -27,11 +27,8 @@ use Rattle.model.specs.Jumps.{word, concat-jumps, linked, jump-list, need-value
 use Rattle.model.specs.Emission.{concat, emit-jump, code-label, patch-to-here, get-label, emit-abc, emit-abx, emit-nil, alloc-reg, free-reg, with-table, add-constant}
 use Rattle.model.specs.Discharge.{discharge-kind, discharge-vars, free-expr, number-constant, load-kind, move, discharge2reg, discharge2anyreg, land, load-both, settle, join-jump, exp2reg, exp2nextreg, exp2anyreg, exp2val, small, near, rk-kind, exp2rk}
 use Rattle.emission.specs.Parts.{bufs}
+use Rattle.emission.specs.Laws.{branch}
 use Rattle.discharge.specs.Kinds.{kind-is, put, give, over-of, load-yes, load-no, placed, next-of, any-of, constant-of}
-
--- if then else
-abbrev branch : {A : Type 0} → Bool → Step A → Step A → Step A
-branch b x y = elim b [ true ↦ x | false ↦ y ]
 
 -- an answer that was found to be one of its kinds
 pub given-told : (g : Given) (m : Buffers) {x : Result ℕ} {h : Given} → x ≡ givenIs g m → g ≡ h → x ≡ givenIs h m

@@ -2,7 +2,7 @@
 use Prim.Native.Nat.{ℕ, _+_, _-_, _%_, _<_, _≤_, max}
 use mathlib.Core.Bool.{Bool, true, false, _&&_, _||_}
 use mathlib.Core.List.{List}
-use mathlib.Core.Path.{_≡_, refl, sym, ap, _∙_}
+use mathlib.Core.Path.{_≡_, refl, ap, _∙_}
 use native.Mathlib.Nat.{mod-mod, max-eq-left, max-eq-right}
 use native.Mathlib.Omega.{arith}
 use lib.Dec.{eqb, leb, ltb}
@@ -19,11 +19,11 @@ use Rattle.instructions.specs.declared.OpCode.the-variants.{LoadBool, LoadNil, 
 use Rattle.model.specs.declared.State.{State}
 use Rattle.model.specs.Steps.{Buffers, Step, Result, done, refused, andThen, change, change-words, skip, refuse}
 use Rattle.model.specs.Jumps.{word, concat-jumps, linked, remove-values, patch-list-aux}
-use Rattle.model.specs.Emission.{with-pc, with-free, with-frame, with-jpc, with-label, discharge-jpc, no-room, store, push, emit-at, emit, emit-abc, concat, emit-jump, patch-to-here, get-label, code-label, adjoins, load-nil, emit-nil, check-stack, reserve-regs, alloc-reg, free-reg}
+use Rattle.model.specs.Emission.{with-pc, with-free, with-frame, with-jpc, discharge-jpc, no-room, store, push, emit-at, emit, emit-abc, concat, emit-jump, patch-to-here, get-label, code-label, adjoins, load-nil, emit-nil, check-stack, reserve-regs, alloc-reg, free-reg}
 use Rattle.emission.specs.Parts.{bufs, labelled}
 
 -- if then else
-abbrev branch : {A : Type 0} → Bool → Step A → Step A → Step A
+abbrev pub branch : {A : Type 0} → Bool → Step A → Step A → Step A
 branch b x y = elim b [ true ↦ x | false ↦ y ]
 
 -- ---- of a value only what fits its field counts
@@ -65,11 +65,6 @@ third true y z h = cc
 third false true z h = cc
 third false false z h = h
 
-last-true : (x y z : Bool) → z ≡ true → (x || (y || z)) ≡ true
-last-true true y z h = refl
-last-true false true z h = refl
-last-true false false z h = h
-
 -- a word that was stored is one of the first 131,071
 push-lt : (w line : ℕ) (s : State) (m : Buffers) {n : ℕ} {t : State} {k : Buffers} → push w line s m ≡ done n t k → n < maxWords
 unfolding push
@@ -80,12 +75,6 @@ push-lt w line s m {n} {t} {k} e = go (no-room s m) refl e
     go false h e =
         let q : s .pc ≡ n = cc in
         omega (arith, leb-false maxWords (s .pc) (third (leb (length (m .code)) (s .pc)) (leb (length (m .lines)) (s .pc)) (leb maxWords (s .pc)) h))
-
--- and past those nothing is stored
-push-full : (w line : ℕ) (s : State) (m : Buffers) → maxWords ≤ s .pc → push w line s m ≡ refused Words m
-unfolding push
-push-full w line s m h =
-    simp (push, last-true (leb (length (m .code)) (s .pc)) (leb (length (m .lines)) (s .pc)) (leb maxWords (s .pc)) (le-leb _ _ h))
 
 pub emit-lt : (w : ℕ) (s : State) (m : Buffers) {n : ℕ} {t : State} {k : Buffers} → emit w s m ≡ done n t k → n < maxWords
 unfolding emit emit-at discharge-jpc andThen

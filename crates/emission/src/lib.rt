@@ -249,7 +249,7 @@ fn load_nil(code: &mut [u32], lines: &mut [u32], st: State, reg: usize) -> Stepp
     }
 }
 
-// `emit_nil` for one register: nothing at word 0, where all registers are nil; an adjoining `LoadNil` is lengthened; both unless a label lies at the word to come.
+// `emit_nil` for one register: nothing at word 0, where all registers above the locals are nil; an adjoining `LoadNil` is lengthened; both unless a label lies at the word to come.
 pub fn emit_nil(code: &mut [u32], lines: &mut [u32], st: State, from: usize) -> Stepped
     ensures { λ r. ⌜ ((ks vs p : List ℕ) → emit-nil from st (bufs (now (code .entry)) (now (lines .entry)) ks vs p) ≡ steppedIs r (bufs (now (code .exit)) (now (lines .exit)) ks vs p)) ⌝ }
 {

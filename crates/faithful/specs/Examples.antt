@@ -39,7 +39,8 @@ use Rattle.model.specs.Lowering.{Sizes}
 use Rattle.model.specs.Rows.{nils}
 use Rattle.model.specs.Values.{Value, World}
 use Rattle.simulation.specs.Texts.{Bytes}
-use Rattle.faithful.specs.Faithful.{Runs-as-read, faithful}
+use Rattle.model.specs.Claims.{Runs-as-read}
+use Rattle.faithful.specs.Faithful.{faithful}
 
 -- whether each entry is a byte
 unfoldable all-bytes : List ℕ → Bool

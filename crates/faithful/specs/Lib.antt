@@ -1,3 +1,4 @@
 pub mod Accepted
+pub mod Cases
 pub mod Faithful
 pub mod Examples

@@ -1,22 +1,22 @@
 -- What holds of the lowering of every expression whatever is run: the registers that its descriptor owns, and labels that are new and different. Read off the theorem, for a silent outside and locals that are all nil,
 -- since it speaks of every outside.
-use Prim.Native.Nat.{ℕ, suc, _+_, _≤_, _<_}
+use Prim.Native.Nat.{ℕ, _≤_, _<_}
 use mathlib.Core.Bool.{false}
 use mathlib.Core.Path.{_≡_, subst}
 use mathlib.Core.List.{List, []}
 use lib.ListN.{length, replicate, length-replicate}
 use native.Mathlib.Omega.{arith as nat}
 use Rattle.cursor.specs.declared.Text.{Text}
-use Rattle.chunk.specs.Ast.{Expr, Exprs}
+use Rattle.chunk.specs.Ast.{Expr}
 use Rattle.model.specs.Values.{Value, nil, World, Taken}
 use Rattle.model.specs.Reading.{read-expr}
 use Rattle.labelled.specs.Machine.{Hist, Regs, Setting}
 use Rattle.labelled.specs.Emission.{St}
 use Rattle.labelled.specs.Discharge.{Pair}
 use Rattle.labelled.specs.Owning.{Own}
-use Rattle.labelled.specs.Expressions.{comp, compArgs}
+use Rattle.labelled.specs.Expressions.{comp}
 use Rattle.labelled.specs.Good.{Good}
-use Rattle.labelled.specs.Faithful.{comp-good, args-good}
+use Rattle.labelled.specs.Faithful.{comp-good}
 use Rattle.labelled.specs.Locals.{settingOf, finds}
 
 -- f registers are taken before, and `active` of them hold locals
@@ -48,7 +48,3 @@ module _ (chunk : List ℕ) (names : List Text) where
 
   pub comp-shaped : (a : Expr) (s : St) → 1 ≤ s .nxt → length names ≤ s .free → Shaped (length names) (s .free) s (comp chunk names a s)
   comp-shaped a s l na = shape _ (s .free) s (comp chunk names a s) (comp-quiet a s l na)
-
-  -- arguments, n of which stand behind the function's register b
-  pub args-shaped : (es : Exprs) (b n : ℕ) (s : St) → 1 ≤ s .nxt → length names ≤ b → s .free ≡ suc (n + b) → Shaped (length names) b s (compArgs chunk names es b n s)
-  args-shaped es b n s l nb e = shape _ b s (compArgs chunk names es b n s) (args-good quiet chunk names blank (finds silent chunk names blank [] each) es b n s l (omega (nat, each)) e)

@@ -17,8 +17,9 @@ use Rattle.model.specs.declared.Counts.{Counts}
 use Rattle.model.specs.declared.Lowered.{Lowered}
 use Rattle.model.specs.declared.Lowered.the-variants as answer
 use Rattle.model.specs.Steps.{Buffers}
+use Rattle.model.specs.Claims.{sizes}
 use Rattle.model.specs.Lowering.{Sizes, cleared, Out, out, refusal-of, lower-formed, lowered}
-use Rattle.lowering.specs.Parts.{sizes, from-header, scratch-of}
+use Rattle.lowering.specs.Parts.{from-header, scratch-of}
 use Rattle.lowering.specs.Laws.{cleared-again}
 
 module _ (z : Sizes) (chunk : List ℕ) where

@@ -19,10 +19,11 @@ use Rattle.model.specs.Steps.{Buffers, Step, Result, done, refused, _>>=_, _>>_
 use Rattle.model.specs.Emission.{emit, emit-abc, reserve-regs}
 use Rattle.model.specs.Discharge.{exp2nextreg}
 use Rattle.model.specs.Expressions.{compile-expr}
+use Rattle.model.specs.Claims.{sizes}
 use Rattle.model.specs.Lowering.{cleared, start, formulas, lower-chunk, out, ended, with-header}
 use Rattle.emission.specs.Parts.{bufs}
 use Rattle.calls.specs.Laws.{then-done, then-refused}
-use Rattle.lowering.specs.Parts.{sizes, returning, from-header}
+use Rattle.lowering.specs.Parts.{returning, from-header}
 
 module _ (f : Step ExprContext) (n : ℕ) (s : State) (m : Buffers) where
   pub formulas-none : n ≡ 0 → formulas f n s m ≡ done tt s m

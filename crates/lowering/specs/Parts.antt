@@ -1,7 +1,6 @@
--- Parts of the definitions that the code has functions for, and the lengths of lent buffers. Assumes nothing.
+-- Parts of the definitions that the code has functions for. Assumes nothing.
 use Prim.Native.Nat.{ℕ, _+_}
 use mathlib.Core.List.{List}
-use lib.ListN.{length}
 use Rattle.instructions.specs.declared.OpCode.the-variants as op
 use Rattle.buffers.specs.Pad.{zeros, pad}
 use Rattle.chunk.specs.declared.header.Header.{Header}
@@ -11,10 +10,6 @@ use Rattle.model.specs.declared.Lowered.the-variants as answer
 use Rattle.model.specs.Steps.{Buffers, Step, _>>=_, _>>_, skip}
 use Rattle.model.specs.Emission.{emit-abc}
 use Rattle.model.specs.Lowering.{Sizes, start, lower-chunk, Out, ended, with-header}
-
--- the lengths of these buffers and of a scratch of n numbers
-abbrev pub sizes : Buffers → ℕ → Sizes
-sizes m n = record { code = length (m .code); lines = length (m .lines); kinds = length (m .kinds); values = length (m .values); pool = length (m .pool); scratch = n }
 
 -- the end of `lower-chunk`
 abbrev pub returning : Header → Step (Unit {0})

@@ -2,22 +2,14 @@
 use Prim.Native.Nat.{ℕ}
 use mathlib.Core.Path.{_≡_, ap, subst}
 use mathlib.Core.List.{List}
-use lib.ListN.{length}
-use Rattle.chunk.specs.Ast.{Chunk}
-use Rattle.chunk.specs.Form.{formed, formOf}
 use Rattle.model.specs.declared.Lowered.{Lowered}
 use Rattle.model.specs.declared.Lowered.the-variants as answer
-use Rattle.model.specs.Values.{Value, World}
 use Rattle.model.specs.Steps.{Buffers}
+use Rattle.model.specs.Claims.{Runs-as-read, Padded, Faithful, Lowers}
 use Rattle.model.specs.Lowering.{Sizes, Out, out, lowered}
 use Rattle.simulation.specs.Texts.{Bytes}
-use Rattle.faithful.specs.Faithful.{Runs-as-read, faithful}
-use Rattle.padding.specs.Padded.{Padded, padded}
-
--- where the answer is counts: the chunk has a form, and whatever the outside, the locals and the varargs, running the words is reading its formulas
-abbrev pub Faithful : List ℕ → Lowered → Buffers → Type 0
-Faithful chunk (answer.Done k) m = (c : Chunk) × ((formOf chunk ≡ formed c) × ((w : World) (locals varargs : List Value) → length locals ≡ length (c .names) → Runs-as-read chunk c w locals varargs k m))
-Faithful chunk (answer.Refused k) m = Unit {0}
+use Rattle.faithful.specs.Faithful.{faithful}
+use Rattle.padding.specs.Padded.{padded}
 
 module _ (z : Sizes) (chunk : List ℕ) (bytes : Bytes chunk) where
   pub entry-padded : {r : Lowered} {m : Buffers} {s : List ℕ} → lowered z chunk ≡ out r m s → Padded z chunk r m s
@@ -30,5 +22,5 @@ module _ (z : Sizes) (chunk : List ℕ) (bytes : Bytes chunk) where
   entry-faithful (answer.Refused k) e = tt
 
   -- all that the contract says, from its equation
-  pub entry : (r : Lowered) {m : Buffers} {s : List ℕ} → lowered z chunk ≡ out r m s → (lowered z chunk ≡ out r m s) × (Padded z chunk r m s × Faithful chunk r m)
+  pub entry : (r : Lowered) {m : Buffers} {s : List ℕ} → lowered z chunk ≡ out r m s → Lowers z chunk r m s
   entry r e = (e, (entry-padded e, entry-faithful r e))

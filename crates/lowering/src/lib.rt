@@ -7,11 +7,10 @@ ghost use Rattle.buffers.specs.Pad.{zeros};
 ghost use Rattle.chunk.specs.Form.{maxNesting};
 ghost use Rattle.model.specs.Steps.{steppedIs};
 ghost use Rattle.model.specs.Expressions.{compile-expr};
-ghost use Rattle.model.specs.Lowering.{cleared, start, formulas as formulasOf, lower-chunk, out, lowered};
+ghost use Rattle.model.specs.Claims.{sizes, Lowers};
+ghost use Rattle.model.specs.Lowering.{cleared, start, formulas as formulasOf, lower-chunk, out};
 ghost use Rattle.emission.specs.Parts.{bufs};
-ghost use Rattle.lowering.specs.Parts.{sizes, returning, from-header, scratch-of};
-ghost use Rattle.lowering.specs.Running.{Faithful};
-ghost use Rattle.padding.specs.Padded.{Padded};
+ghost use Rattle.lowering.specs.Parts.{returning, from-header, scratch-of};
 use buffers::clear_bytes;
 use buffers::clear_values;
 use buffers::clear_words;
@@ -202,7 +201,7 @@ pub fn lower(
     pool: &mut [u8],
     scratch: &mut [u32],
 ) -> Lowered
-    ensures { λ r. ⌜ (lowered (sizes (bufs (now (code .entry)) (now (lines .entry)) (now (kinds .entry)) (now (values .entry)) (now (pool .entry))) (length (now (scratch .entry)))) (now (chunk .entry)) ≡ out r (bufs (now (code .exit)) (now (lines .exit)) (now (kinds .exit)) (now (values .exit)) (now (pool .exit))) (now (scratch .exit))) × (Padded (sizes (bufs (now (code .entry)) (now (lines .entry)) (now (kinds .entry)) (now (values .entry)) (now (pool .entry))) (length (now (scratch .entry)))) (now (chunk .entry)) r (bufs (now (code .exit)) (now (lines .exit)) (now (kinds .exit)) (now (values .exit)) (now (pool .exit))) (now (scratch .exit)) × Faithful (now (chunk .entry)) r (bufs (now (code .exit)) (now (lines .exit)) (now (kinds .exit)) (now (values .exit)) (now (pool .exit)))) ⌝ }
+    ensures { λ r. ⌜ Lowers (sizes (bufs (now (code .entry)) (now (lines .entry)) (now (kinds .entry)) (now (values .entry)) (now (pool .entry))) (length (now (scratch .entry)))) (now (chunk .entry)) r (bufs (now (code .exit)) (now (lines .exit)) (now (kinds .exit)) (now (values .exit)) (now (pool .exit))) (now (scratch .exit)) ⌝ }
 {
     clear(code, lines, kinds, values, pool);
     let form = check_form(chunk, scratch);

@@ -10,5 +10,6 @@ pub mod Conditions
 pub mod Operators
 pub mod Expressions
 pub mod Lowering
+pub mod Claims
 pub mod Rows
 pub mod Runs

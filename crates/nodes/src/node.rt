@@ -39,11 +39,11 @@ fn read_fields(chunk: &[u8], varargs: bool, kind: Kind, at: usize, line: u32) ->
         Kind::Nil => done(Head::Leaf(Leaf::Nil), line, at),
         Kind::True => done(Head::Leaf(Leaf::True), line, at),
         Kind::False => done(Head::Leaf(Leaf::False), line, at),
-        Kind::Number => match cursor::bits_at(chunk, at) {
+        Kind::Number => match reader::read_bits(chunk, at) {
             BitsRead::Bits(b) => done(Head::Leaf(Leaf::Number(b)), line, at + 8),
             BitsRead::NoBits => NodeRead::Refused(Refusal::Missing),
         },
-        Kind::Str => match cursor::text_at(chunk, at) {
+        Kind::Str => match reader::read_text(chunk, at) {
             TextRead::Text(t) => done(Head::Leaf(Leaf::Str(t)), line, t.start + t.len),
             TextRead::NoText => NodeRead::Refused(Refusal::Missing),
         },
@@ -53,18 +53,18 @@ fn read_fields(chunk: &[u8], varargs: bool, kind: Kind, at: usize, line: u32) ->
             }
             NodeRead::Refused(Refusal::Varargs)
         }
-        Kind::Name => match cursor::text_at(chunk, at) {
+        Kind::Name => match reader::read_text(chunk, at) {
             TextRead::Text(t) => done(Head::Leaf(Leaf::Name(t)), line, t.start + t.len),
             TextRead::NoText => NodeRead::Refused(Refusal::Missing),
         },
-        Kind::Binary => match cursor::byte_at(chunk, at) {
+        Kind::Binary => match reader::read_byte(chunk, at) {
             ByteRead::Byte(b) => match BinOp::from_u8(b) {
                 BinOpRead::Known(o) => done(Head::Two(Two::Binary(o)), line, at + 1),
                 BinOpRead::Unknown => NodeRead::Refused(Refusal::Kind),
             },
             ByteRead::NoByte => NodeRead::Refused(Refusal::Missing),
         },
-        Kind::Unary => match cursor::byte_at(chunk, at) {
+        Kind::Unary => match reader::read_byte(chunk, at) {
             ByteRead::Byte(b) => match UnOp::from_u8(b) {
                 UnOpRead::Known(o) => done(Head::One(One::Unary(o)), line, at + 1),
                 UnOpRead::Unknown => NodeRead::Refused(Refusal::Kind),
@@ -72,21 +72,21 @@ fn read_fields(chunk: &[u8], varargs: bool, kind: Kind, at: usize, line: u32) ->
             ByteRead::NoByte => NodeRead::Refused(Refusal::Missing),
         },
         Kind::Index => done(Head::Two(Two::Index), line, at),
-        Kind::Field => match cursor::text_at(chunk, at) {
+        Kind::Field => match reader::read_text(chunk, at) {
             TextRead::Text(t) => done(Head::One(One::Field(t)), line, t.start + t.len),
             TextRead::NoText => NodeRead::Refused(Refusal::Missing),
         },
-        Kind::MethodCall => match cursor::text_at(chunk, at) {
+        Kind::MethodCall => match reader::read_text(chunk, at) {
             TextRead::Text(t) => {
                 let end = t.start + t.len;
-                match cursor::byte_at(chunk, end) {
+                match reader::read_byte(chunk, end) {
                     ByteRead::Byte(n) => done(Head::Many(Many::MethodCall(t), n), line, end + 1),
                     ByteRead::NoByte => NodeRead::Refused(Refusal::Missing),
                 }
             }
             TextRead::NoText => NodeRead::Refused(Refusal::Missing),
         },
-        Kind::Call => match cursor::byte_at(chunk, at) {
+        Kind::Call => match reader::read_byte(chunk, at) {
             ByteRead::Byte(n) => done(Head::Many(Many::Call, n), line, at + 1),
             ByteRead::NoByte => NodeRead::Refused(Refusal::Missing),
         },
@@ -98,13 +98,13 @@ fn read_fields(chunk: &[u8], varargs: bool, kind: Kind, at: usize, line: u32) ->
 pub fn read_node(chunk: &[u8], varargs: bool, at: usize, line: u32) -> NodeRead
     ensures { λ r. ⌜ nodeAt (now (chunk .entry)) varargs at line ≡ r ⌝ }
 {
-    let ByteRead::Byte(b) = cursor::byte_at(chunk, at) else {
+    let ByteRead::Byte(b) = reader::read_byte(chunk, at) else {
         return NodeRead::Refused(Refusal::Missing);
     };
     let KindRead::Known(kind) = Kind::from_u8(b) else {
         return NodeRead::Refused(Refusal::Kind);
     };
-    let ByteRead::Byte(map) = cursor::byte_at(chunk, at + 1) else {
+    let ByteRead::Byte(map) = reader::read_byte(chunk, at + 1) else {
         return NodeRead::Refused(Refusal::Missing);
     };
     if map / 2 != kind.map() {
@@ -113,7 +113,7 @@ pub fn read_node(chunk: &[u8], varargs: bool, at: usize, line: u32) -> NodeRead
     if map % 2 == 0 {
         return read_fields(chunk, varargs, kind, at + 2, line);
     }
-    let LineRead::Line(l) = cursor::line_at(chunk, at + 2) else {
+    let LineRead::Line(l) = reader::read_line(chunk, at + 2) else {
         return NodeRead::Refused(Refusal::Missing);
     };
     read_fields(chunk, varargs, kind, at + 6, l)

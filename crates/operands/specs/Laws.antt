@@ -6,6 +6,7 @@ use lib.Dec.{ltb}
 use borrow.Author.Tests.{lt-ltb, le-ltb}
 use Rattle.instructions.specs.Limits.{bitRk}
 use Rattle.model.specs.declared.ExprKind.the-variants.{K, NonReloc}
+use Rattle.emission.specs.Laws.{branch}
 use Rattle.model.specs.declared.ExprContext.{ExprContext}
 use Rattle.model.specs.declared.State.{State}
 use Rattle.model.specs.Steps.{Buffers, Step, done, andThen, skip}
@@ -13,10 +14,6 @@ use Rattle.model.specs.Descriptor.{isKind}
 use Rattle.model.specs.Emission.{free-reg}
 use Rattle.model.specs.Discharge.{free-expr, rk}
 use Rattle.model.specs.Operators.{free-in-turn, free-both}
-
--- if then else
-abbrev branch : {A : Type 0} → Bool → Step A → Step A → Step A
-branch b x y = elim b [ true ↦ x | false ↦ y ]
 
 module _ (e : ExprContext) where
   abbrev operand : Bool → ℕ

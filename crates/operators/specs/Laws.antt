@@ -32,16 +32,13 @@ use Rattle.model.specs.Discharge.{discharge-vars, free-expr, exp2nextreg, exp2a
 use Rattle.model.specs.Conditions.{goiftrue, goiffalse, code-not, bit}
 use Rattle.model.specs.Operators.{arithOp, const-fold, with-number, unless-folded, free-both, emit-arith, code-arith, code-unary, code-concat, is-far, far-numeral, compare-operands, either, emit-comp, code-comp, operand, before-right, code-and, code-or, join-concat, after-right, code-unop}
 use Rattle.emission.specs.Parts.{bufs}
+use Rattle.emission.specs.Laws.{branch}
 use Rattle.operands.specs.Forms.{formOf}
 use Rattle.conditions.specs.Parts.{relocable, unary, tested}
 use Rattle.operands.specs.declared.Form.{Form}
 use Rattle.operands.specs.declared.Form.the-variants.{And, Or, Concat, Arithmetic, Comparison}
 use Rattle.operators.specs.declared.Both.{Both}
 use Rattle.operators.specs.Parts.{both-rk, bothIs, chosen, arith-of, jump-of, concat-word, concat-left, joined-to}
-
--- if then else
-abbrev branch : {A : Type 0} → Bool → Step A → Step A → Step A
-branch b x y = elim b [ true ↦ x | false ↦ y ]
 
 -- two operands that were found to be one of their kinds
 pub both-told : (g : Both) (m : Buffers) {x : Result (ExprContext × ExprContext)} {h : Both} → x ≡ bothIs g m → g ≡ h → x ≡ bothIs h m

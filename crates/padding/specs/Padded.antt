@@ -1,66 +1,29 @@
 -- DEMAND 1 over the definitions. For every chunk of bytes and all lengths of the lent buffers: a refusal leaves zeros only; success leaves in each buffer as many numbers as the counts say and then zeros, each listed entry is a constant, no two are equal, and texts lie in the counted bytes.
 -- The words' tail is zero because the labelled code is represented, the others' because each step keeps them; the scratch holds the places by definition.
-use Prim.Native.Nat.{ℕ, zero, suc, _-_, _≤_, _<_}
-use mathlib.Core.Bool.{Bool, true, false}
+use Prim.Native.Nat.{ℕ, zero, suc, _-_, _≤_}
 use mathlib.Core.Path.{_≡_, refl, sym, ap, _∙_, subst}
 use mathlib.Core.List.{List, [], _∷_, _++_}
-use mathlib.Core.Option.{some}
 use native.Mathlib.Nat.{sub-zero, suc-sub-suc}
 use native.Mathlib.Omega.{arith}
 use lib.ListN.{length, getD, take}
-use lib.Dec.{leb}
-use borrow.Author.Tests.{leb-true}
 use Rattle.refusals.specs.declared.Refusal.{Refusal}
-use Rattle.refusals.specs.declared.Refusal.the-variants as refusal
 use Rattle.buffers.specs.Pad.{zeros, pad-fits}
-use Rattle.constants.specs.Entry.{Constant}
-use Rattle.constants.specs.Distinct.{constantAt, Inside}
 use Rattle.chunk.specs.Ast.{Chunk, spansOf}
-use Rattle.chunk.specs.Form.{Formed, formed, refused as unformed, formOf}
-use Rattle.chunk.specs.Headers.{headerAt}
+use Rattle.chunk.specs.Form.{formed, formOf}
 use Rattle.chunk.specs.Walks.{placesOf}
-use Rattle.chunk.specs.declared.header.HeaderRead.{HeaderRead}
-use Rattle.chunk.specs.declared.header.HeaderRead.the-variants as header
-use Rattle.model.specs.declared.Counts.{Counts}
-use Rattle.model.specs.declared.Lowered.{Lowered}
-use Rattle.model.specs.declared.Lowered.the-variants as answer
 use Rattle.model.specs.declared.State.{State}
 use Rattle.model.specs.Steps.{Buffers, Result, done}
-use Rattle.model.specs.Lowering.{Sizes, cleared, start, lower-chunk, Out, refusal-of, ended, with-header, lower-formed, lowered}
+use Rattle.model.specs.Claims.{Filled, Padded}
+use Rattle.model.specs.Lowering.{Sizes, cleared, start, lower-chunk, Out, refusal-of, ended, lowered}
 use Rattle.labelled.specs.Emission.{St}
 use Rattle.labelled.specs.Expressions.{labelled}
 use Rattle.threads.specs.Holding.{Ends, gives, refuses}
 use Rattle.simulation.specs.Texts.{Bytes}
 use Rattle.simulation.specs.Whole.{Lowers-to, whole-lowered}
-use Rattle.faithful.specs.Accepted.{Accepted, accepted, header-names}
+use Rattle.faithful.specs.Accepted.{Accepted, header-names}
+use Rattle.faithful.specs.Cases.{lowered-cases}
 use Rattle.padding.specs.Clean.{Clean}
 use Rattle.padding.specs.Lowering.{lowered-clean}
-
--- a buffer of n numbers: so many that are used, and then zeros
-pub record Filled (n used : ℕ) (l : List ℕ) : Type 0 where
-  pub long : length l ≡ n
-  pub fits : used ≤ n
-  pub then : l ≡ take used l ++ zeros (n - used)
-
--- what success leaves
-pub record Left (z : Sizes) (chunk : List ℕ) (k : Counts) (m : Buffers) (scratch : List ℕ) : Type 0 where
-  pub code : Filled (z .code) (k .words) (m .code)
-  pub lines : Filled (z .lines) (k .words) (m .lines)
-  pub kinds : Filled (z .kinds) (k .constants) (m .kinds)
-  pub values : Filled (z .values) (k .constants) (m .values)
-  pub pool : Filled (z .pool) (k .text) (m .pool)
-  pub entries : (i : ℕ) → i < k .constants → (c : Constant) × (constantAt (m .pool) (m .kinds) (m .values) i ≡ some c)
-  pub texts : (i : ℕ) → i < k .constants → getD (m .kinds) i 0 ≡ 4 → Inside (k .text) (getD (m .values) i 0)
-  pub frame : k .frame ≤ 250
-  pub differ : (i j : ℕ) → i < j → j < k .constants → constantAt (m .pool) (m .kinds) (m .values) i ≡ constantAt (m .pool) (m .kinds) (m .values) j → ⊥
-  pub tree : Chunk
-  pub form : formOf chunk ≡ formed tree
-  pub room : length (placesOf (spansOf (tree .formulas))) ≤ z .scratch
-  pub places : scratch ≡ placesOf (spansOf (tree .formulas)) ++ zeros (z .scratch - length (placesOf (spansOf (tree .formulas))))
-
-abbrev pub Padded : Sizes → List ℕ → Lowered → Buffers → List ℕ → Type 0
-Padded z chunk (answer.Done k) m scratch = Left z chunk k m scratch
-Padded z chunk (answer.Refused x) m scratch = (m ≡ cleared z) × (scratch ≡ zeros (z .scratch))
 
 -- zero from a place on
 all-zeros : (l : List ℕ) → ((i : ℕ) → getD l i 0 ≡ 0) → l ≡ zeros (length l)
@@ -82,7 +45,7 @@ module _ (z : Sizes) (chunk : List ℕ) where
   refused-good : (x : Refusal) → Good (refusal-of z x)
   refused-good x = (refl, refl)
 
-  module _ (bytes : Bytes chunk) (c : Chunk) (form : formOf chunk ≡ formed c) (a : Accepted chunk c) where
+  module _ (c : Chunk) (form : formOf chunk ≡ formed c) (a : Accepted chunk c) where
     abbrev places : List ℕ
     places = placesOf (spansOf (c .formulas))
 
@@ -110,21 +73,11 @@ module _ (z : Sizes) (chunk : List ℕ) where
     ended-good r l g (refuses x m e) = subst (λ y. Good (ended z places y)) (sym e) (refused-good x)
     ended-good r l g (gives tt s m e L) = subst (λ y. Good (ended z places y)) (sym e) (done-good s m l (g s m e) L)
 
-    formed-good : Good (lower-formed z chunk places)
-    unfolding lower-formed
-    formed-good = go (leb (length places) (z .scratch)) refl (headerAt chunk) (a .is-head)
-      where
-        go : (t : Bool) → leb (length places) (z .scratch) ≡ t → (r : HeaderRead) → r ≡ header.Header (a .head) →
-            Good (elim t as (λ (_ : Bool). Out) [ false ↦ refusal-of z refusal.Scratch | true ↦ with-header z r λ h. ended z places (lower-chunk chunk h (start (h .next) (h .locals)) (cleared z)) ])
-        go false l r e = refused-good refusal.Scratch
-        go true l r e = subst (λ y. Good (with-header z y λ h. ended z places (lower-chunk chunk h (start (h .next) (h .locals)) (cleared z)))) (sym e)
-            (ended-good _ (leb-true _ _ l) (lowered-clean z chunk (a .head)) (whole-lowered z chunk (a .head) (c .names) (a .names-are) (ap length (a .names-are) ∙ header-names chunk (a .head) (a .is-head)) bytes (c .formulas) (a .at) (a .line) (a .formulas)))
-
 -- DEMAND 1
 pub padded : (z : Sizes) (chunk : List ℕ) → Bytes chunk → Padded z chunk (lowered z chunk .answer) (lowered z chunk .buffers) (lowered z chunk .scratch)
-unfolding lowered
-padded z chunk bytes = go (formOf chunk) refl
+padded z chunk bytes = lowered-cases z chunk (Good z chunk) (refused-good z chunk) well
   where
-    go : (f : Formed) → formOf chunk ≡ f → Good z chunk (elim f as (λ (_ : Formed). Out) [ unformed x ↦ refusal-of z x | formed y ↦ lower-formed z chunk (placesOf (spansOf (y .formulas))) ])
-    go (unformed x) e = refused-good z chunk x
-    go (formed c) e = formed-good z chunk bytes c e (accepted chunk c e)
+    well : (c : Chunk) → formOf chunk ≡ formed c → (a : Accepted chunk c) → length (placesOf (spansOf (c .formulas))) ≤ z .scratch → Good z chunk (ended z (placesOf (spansOf (c .formulas))) (lower-chunk chunk (a .head) (start (a .head .next) (a .head .locals)) (cleared z)))
+    well c form a room =
+        ended-good z chunk c form a _ room (lowered-clean z chunk (a .head))
+        (whole-lowered z chunk (a .head) (c .names) (a .names-are) (ap length (a .names-are) ∙ header-names chunk (a .head) (a .is-head)) bytes (c .formulas) (a .at) (a .line) (a .formulas))

@@ -196,10 +196,6 @@ key-ed1 g p n (pl w) = refl
 key-ed1 g p n (br c (to q)) = refl
 key-ed1 g p n (br c (lbl m)) = key-br p n (g m) c m
 
-idem-set : (t : Bool) (vt r b dt : ℕ) (c : Bool) → edI (land vt (some r) dt) (br (setreg t r b c) (to vt)) ≡ br (setreg t r b c) (to vt)
-idem-set true vt r b dt c = refl
-idem-set false vt r b dt c = refl
-
 pub idem-edI : (a : Act) (i : Instr) → edI a (edI a i) ≡ edI a i
 idem-edI a (pl w) = refl
 idem-edI a (br c (to p)) = refl

@@ -44,7 +44,7 @@ pub fn search_local(chunk: &[u8], h: Header, t: Text) -> Found
     let mut i = 0;
     let mut last = 0;
     while i < count {
-        let TextRead::Text(name) = cursor::text_at(chunk, at) else {
+        let TextRead::Text(name) = reader::read_text(chunk, at) else {
             return Found::Nothing;
         };
         at = name.start + name.len;

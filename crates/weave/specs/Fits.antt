@@ -11,9 +11,10 @@ use Rattle.refusals.specs.declared.Refusal.the-variants as refusal
 use Rattle.model.specs.declared.Lowered.{Lowered}
 use Rattle.model.specs.declared.Lowered.the-variants as answer
 use Rattle.model.specs.Steps.{Buffers}
+use Rattle.model.specs.Claims.{Padded}
 use Rattle.model.specs.Lowering.{lowered}
 use Rattle.simulation.specs.Texts.{Bytes}
-use Rattle.padding.specs.Padded.{Padded, padded}
+use Rattle.padding.specs.Padded.{padded}
 use Rattle.listing.specs.Listing.{decimal, glyph, hex, word-line, constant-line, word-lines, constant-lines, refusal-line, listing}
 use Rattle.weave.specs.Weave.{lent, maxInput, list-of, weavelist}
 

@@ -2,9 +2,9 @@
 ghost use mathlib.Core.Path.{_≡_};
 ghost use lib.ListN.{length};
 ghost use Rattle.emission.specs.Parts.{bufs};
+ghost use Rattle.model.specs.Claims.{sizes};
 ghost use Rattle.model.specs.Lowering.{lowered};
 ghost use Rattle.listing.specs.Page.{left, written};
-ghost use Rattle.lowering.specs.Parts.{sizes};
 ghost use Rattle.weave.specs.Weave.{list-of, weavelist as weavelistOf};
 use listing::Listed;
 use listing::listing;

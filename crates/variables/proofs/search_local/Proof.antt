@@ -21,8 +21,8 @@ abbrev μ-loop : tie.MeasureT-loop
 loop-holds : tie.Need-loop-holds Inv-loop μ-loop
 loop-holds c = rw sub-zero
 
-text-at-requires : tie.Need-text-at-requires Inv-loop μ-loop
-text-at-requires c κs = search needs
+read-text-requires : tie.Need-read-text-requires Inv-loop μ-loop
+read-text-requires c κs = search needs
 
 enum-known-name : tie.Need-enum-known-name Inv-loop μ-loop
 enum-known-name c = search needs
@@ -35,13 +35,13 @@ returns c =
     let p3 = c .before .before .before in
     let p4 = p3 .before in
     let p6 = p4 .before .before in
-    sought-all _ _ (namesAt (now (p6 .args .chunk)) (p6 .args .h .locals) (p6 .args .h .names)) ∙ ((p4 .loop .inv) ∙ sought-cut _ _ _ _ _ ((p6 .args .h .locals) - (p4 .loop .i)) (omega (arith, (p3 .loop-test .taken))) ((c .before .before .text-at .ensures) ∙ (c .enum-told .given .1)))
+    sought-all _ _ (namesAt (now (p6 .args .chunk)) (p6 .args .h .locals) (p6 .args .h .names)) ∙ ((p4 .loop .inv) ∙ sought-cut _ _ _ _ _ ((p6 .args .h .locals) - (p4 .loop .i)) (omega (arith, (p3 .loop-test .taken))) ((c .before .before .read-text .ensures) ∙ (c .enum-told .given .1)))
 
 add-at : tie.Need-add-at Inv-loop μ-loop
 add-at c =
     let p4 = c .before .before .before .before in
     let p8 = p4 .before .before .before .before in
-    omega (arith, (p8), text-inside _ _ _ ((p4 .text-at .ensures) ∙ (c .before .before .name .given .1)))
+    omega (arith, (p8), text-inside _ _ _ ((p4 .read-text .ensures) ∙ (c .before .before .name .given .1)))
 
 newer-requires : tie.Need-newer-requires Inv-loop μ-loop
 newer-requires c κs =
@@ -66,7 +66,7 @@ loop-again c =
     let p7 = p6 .before in
     let p9 = p7 .before .before in
     let e : (p9 .args .h .locals) - ((p7 .loop .i) + 1) ≡ (p9 .args .h .locals) - (p7 .loop .i) - 1 = omega arith in
-    rw (e, ← (c .newer .ensures)) ((p7 .loop .inv) ∙ sought-more _ _ _ _ _ ((p9 .args .h .locals) - (p7 .loop .i)) _ (omega (arith, (p6 .loop-test .taken))) ((p5 .text-at .ensures) ∙ (p3 .name .given .1)))
+    rw (e, ← (c .newer .ensures)) ((p7 .loop .inv) ∙ sought-more _ _ _ _ _ ((p9 .args .h .locals) - (p7 .loop .i)) _ (omega (arith, (p6 .loop-test .taken))) ((p5 .read-text .ensures) ∙ (p3 .name .given .1)))
 
 returns-2 : tie.Need-returns-2 Inv-loop μ-loop
 returns-2 c =
@@ -88,7 +88,7 @@ search-local-spec =
     Inv-loop
     μ-loop
     loop-holds
-    text-at-requires
+    read-text-requires
     enum-known-name
     enum-told
     returns

@@ -5,8 +5,8 @@ use borrow.Author.Needs.{needs}
 use Rattle.chunk.proofs.header.read_header.Statement.{statement}
 use Rattle.chunk.proofs.header.read_header.Tie as tie
 
-byte-at-requires : tie.Need-byte-at-requires
-byte-at-requires c κs = search needs
+read-byte-requires : tie.Need-read-byte-requires
+read-byte-requires c κs = search needs
 
 enum-known-map : tie.Need-enum-known-map
 enum-known-map c = search needs
@@ -16,13 +16,13 @@ enum-told c = search needs
 
 returns : tie.Need-returns
 unfolding headerAt
-returns c = simp (headerAt, (c .before .before .byte-at .ensures), (c .enum-told .given .1))
+returns c = simp (headerAt, (c .before .before .read-byte .ensures), (c .enum-told .given .1))
 
 returns-2 : tie.Need-returns-2
 unfolding headerAt
 returns-2 c =
     let p4 = c .before .before .before .before in
-    simp (headerAt, (p4 .byte-at .ensures), (c .before .before .map .given .1), lt-leb _ _ (c .if1 .taken))
+    simp (headerAt, (p4 .read-byte .ensures), (c .before .before .map .given .1), lt-leb _ _ (c .if1 .taken))
 
 read-formulas-requires : tie.Need-read-formulas-requires
 read-formulas-requires c κs = search needs
@@ -32,10 +32,10 @@ unfolding headerAt
 returns-3 c =
     let p4 = c .before .before .before .before in
     let p6 = p4 .before .before in
-    simp (headerAt, (p6 .byte-at .ensures), (p4 .map .given .1), le-leb _ _ (c .before .before .if1 .left), eq-eqb _ _ (c .before .if2 .taken), (c .read-formulas .ensures))
+    simp (headerAt, (p6 .read-byte .ensures), (p4 .map .given .1), le-leb _ _ (c .before .before .if1 .left), eq-eqb _ _ (c .before .if2 .taken), (c .read-formulas .ensures))
 
-byte-at-requires-2 : tie.Need-byte-at-requires-2
-byte-at-requires-2 c κs = search needs
+read-byte-requires-2 : tie.Need-read-byte-requires-2
+read-byte-requires-2 c κs = search needs
 
 enum-known-count : tie.Need-enum-known-count
 enum-known-count c = search needs
@@ -50,7 +50,7 @@ returns-4 c =
     let p4 = p3 .before in
     let p6 = p4 .before .before in
     let p8 = p6 .before .before in
-    simp (headerAt, (p8 .byte-at .ensures), (p6 .map .given .1), le-leb _ _ (p4 .if1 .left), ne-eqb _ _ (p3 .if2 .left), (c .before .before .byte-at2 .ensures), (c .enum-told2 .given .1))
+    simp (headerAt, (p8 .read-byte .ensures), (p6 .map .given .1), le-leb _ _ (p4 .if1 .left), ne-eqb _ _ (p3 .if2 .left), (c .before .before .read-byte2 .ensures), (c .enum-told2 .given .1))
 
 returns-5 : tie.Need-returns-5
 unfolding headerAt
@@ -60,7 +60,7 @@ returns-5 c =
     let p6 = p5 .before in
     let p8 = p6 .before .before in
     let p10 = p8 .before .before in
-    simp (headerAt, (p10 .byte-at .ensures), (p8 .map .given .1), le-leb _ _ (p6 .if1 .left), ne-eqb _ _ (p5 .if2 .left), (p4 .byte-at2 .ensures), (c .before .before .count .given .1), lt-leb _ _ (c .if3 .taken))
+    simp (headerAt, (p10 .read-byte .ensures), (p8 .map .given .1), le-leb _ _ (p6 .if1 .left), ne-eqb _ _ (p5 .if2 .left), (p4 .read-byte2 .ensures), (c .before .before .count .given .1), lt-leb _ _ (c .if3 .taken))
 
 cast-locals : tie.Need-cast-locals
 cast-locals c = search needs
@@ -84,7 +84,7 @@ returns-6 c =
     let p9 = p8 .before in
     let p11 = p9 .before .before in
     let p13 = p11 .before .before in
-    simp (headerAt, (p13 .byte-at .ensures), (p11 .map .given .1), le-leb _ _ (p9 .if1 .left), ne-eqb _ _ (p8 .if2 .left), (p7 .byte-at2 .ensures), (p5 .count .given .1), le-leb _ _ (p3 .if3 .left), (c .before .before .skip-names .ensures), (c .enum-told3 .given .1))
+    simp (headerAt, (p13 .read-byte .ensures), (p11 .map .given .1), le-leb _ _ (p9 .if1 .left), ne-eqb _ _ (p8 .if2 .left), (p7 .read-byte2 .ensures), (p5 .count .given .1), le-leb _ _ (p3 .if3 .left), (c .before .before .skip-names .ensures), (c .enum-told3 .given .1))
 
 read-formulas-requires-2 : tie.Need-read-formulas-requires-2
 read-formulas-requires-2 c κs = search needs
@@ -100,20 +100,20 @@ returns-7 c =
     let p11 = p10 .before in
     let p13 = p11 .before .before in
     let p15 = p13 .before .before in
-    simp (headerAt, (p15 .byte-at .ensures), (p13 .map .given .1), le-leb _ _ (p11 .if1 .left), ne-eqb _ _ (p10 .if2 .left), (p9 .byte-at2 .ensures), (p7 .count .given .1), le-leb _ _ (p5 .if3 .left), (p4 .skip-names .ensures), (c .before .before .end .given .1), (c .read-formulas2 .ensures))
+    simp (headerAt, (p15 .read-byte .ensures), (p13 .map .given .1), le-leb _ _ (p11 .if1 .left), ne-eqb _ _ (p10 .if2 .left), (p9 .read-byte2 .ensures), (p7 .count .given .1), le-leb _ _ (p5 .if3 .left), (p4 .skip-names .ensures), (c .before .before .end .given .1), (c .read-formulas2 .ensures))
 
 pub read-header-spec : {M : Type 1} → statement M
 read-header-spec =
     tie.close
     (tie.spec
-    byte-at-requires
+    read-byte-requires
     enum-known-map
     enum-told
     returns
     returns-2
     read-formulas-requires
     returns-3
-    byte-at-requires-2
+    read-byte-requires-2
     enum-known-count
     enum-told-2
     returns-4

@@ -16,8 +16,8 @@ abbrev μ-loop : tie.MeasureT-loop
 loop-holds : tie.Need-loop-holds Inv-loop μ-loop
 loop-holds c = refl
 
-text-at-requires : tie.Need-text-at-requires Inv-loop μ-loop
-text-at-requires c κs = search needs
+read-text-requires : tie.Need-read-text-requires Inv-loop μ-loop
+read-text-requires c κs = search needs
 
 enum-known-t : tie.Need-enum-known-t Inv-loop μ-loop
 enum-known-t c = search needs
@@ -29,13 +29,13 @@ returns : tie.Need-returns Inv-loop μ-loop
 returns c =
     let p3 = c .before .before .before in
     let p4 = p3 .before in
-    (p4 .loop .inv) ∙ skip-cut _ _ _ (p3 .loop-test .taken) ((c .before .before .text-at .ensures) ∙ (c .enum-told .given .1))
+    (p4 .loop .inv) ∙ skip-cut _ _ _ (p3 .loop-test .taken) ((c .before .before .read-text .ensures) ∙ (c .enum-told .given .1))
 
 add-next : tie.Need-add-next Inv-loop μ-loop
 add-next c =
     let p4 = c .before .before .before .before in
     let p8 = p4 .before .before .before .before in
-    omega (arith, p8, text-inside _ _ _ (p4 .text-at .ensures ∙ c .before .before .t .given .1))
+    omega (arith, p8, text-inside _ _ _ (p4 .read-text .ensures ∙ c .before .before .t .given .1))
 
 sub-left : tie.Need-sub-left Inv-loop μ-loop
 sub-left c = search needs
@@ -48,7 +48,7 @@ loop-again c =
     let p4 = c .before .before .before .before in
     let p5 = p4 .before in
     let p6 = p5 .before in
-    (p6 .loop .inv) ∙ skip-more _ _ _ _ (p5 .loop-test .taken) ((p4 .text-at .ensures) ∙ (c .before .before .t .given .1))
+    (p6 .loop .inv) ∙ skip-more _ _ _ _ (p5 .loop-test .taken) ((p4 .read-text .ensures) ∙ (c .before .before .t .given .1))
 
 returns-2 : tie.Need-returns-2 Inv-loop μ-loop
 returns-2 c = (c .before .loop .inv) ∙ skip-end _ _ _ (c .loop-test .left)
@@ -60,7 +60,7 @@ skip-names-spec =
     Inv-loop
     μ-loop
     loop-holds
-    text-at-requires
+    read-text-requires
     enum-known-t
     enum-told
     returns

@@ -28,8 +28,8 @@ done-requires-3 c κs = search needs
 enum-told-4 : tie.Need-enum-told-4
 enum-told-4 c = search needs
 
-bits-at-requires : tie.Need-bits-at-requires
-bits-at-requires c κs = search needs
+read-bits-requires : tie.Need-read-bits-requires
+read-bits-requires c κs = search needs
 
 enum-known-b : tie.Need-enum-known-b
 enum-known-b c = search needs
@@ -38,7 +38,7 @@ add-done : tie.Need-add-done
 add-done c =
     let p3 = c .before .before .before in
     let p7 = p3 .before .before .before .before in
-    omega (arith, p7, bits-inside _ _ _ (p3 .bits-at .ensures ∙ c .before .b .given .1))
+    omega (arith, p7, bits-inside _ _ _ (p3 .read-bits .ensures ∙ c .before .b .given .1))
 
 done-requires-4 : tie.Need-done-requires-4
 done-requires-4 c κs = search needs
@@ -49,8 +49,8 @@ enum-told-5 c = search needs
 enum-told-6 : tie.Need-enum-told-6
 enum-told-6 c = search needs
 
-text-at-requires : tie.Need-text-at-requires
-text-at-requires c κs = search needs
+read-text-requires : tie.Need-read-text-requires
+read-text-requires c κs = search needs
 
 enum-known-t : tie.Need-enum-known-t
 enum-known-t c = search needs
@@ -59,7 +59,7 @@ add-done-2 : tie.Need-add-done-2
 add-done-2 c =
     let p4 = c .before .before .before .before in
     let p8 = p4 .before .before .before .before in
-    omega (arith, p8, text-inside _ _ _ (p4 .text-at .ensures ∙ c .before .before .t .given .1))
+    omega (arith, p8, text-inside _ _ _ (p4 .read-text .ensures ∙ c .before .before .t .given .1))
 
 done-requires-5 : tie.Need-done-requires-5
 done-requires-5 c κs = search needs
@@ -80,8 +80,8 @@ returns c = simp (fieldsAt, c .before .before .enum-told8 .given .1, c .before .
 enum-told-9 : tie.Need-enum-told-9
 enum-told-9 c = search needs
 
-text-at-requires-2 : tie.Need-text-at-requires-2
-text-at-requires-2 c κs = search needs
+read-text-requires-2 : tie.Need-read-text-requires-2
+read-text-requires-2 c κs = search needs
 
 enum-known-t-2 : tie.Need-enum-known-t-2
 enum-known-t-2 c = search needs
@@ -90,7 +90,7 @@ add-done-3 : tie.Need-add-done-3
 add-done-3 c =
     let p4 = c .before .before .before .before in
     let p8 = p4 .before .before .before .before in
-    omega (arith, p8, text-inside _ _ _ (p4 .text-at2 .ensures ∙ c .before .before .t2 .given .1))
+    omega (arith, p8, text-inside _ _ _ (p4 .read-text2 .ensures ∙ c .before .before .t2 .given .1))
 
 done-requires-7 : tie.Need-done-requires-7
 done-requires-7 c κs = search needs
@@ -101,8 +101,8 @@ enum-told-10 c = search needs
 enum-told-11 : tie.Need-enum-told-11
 enum-told-11 c = search needs
 
-byte-at-requires : tie.Need-byte-at-requires
-byte-at-requires c κs = search needs
+read-byte-requires : tie.Need-read-byte-requires
+read-byte-requires c κs = search needs
 
 enum-known-b-2 : tie.Need-enum-known-b-2
 enum-known-b-2 c = search needs
@@ -118,7 +118,7 @@ add-done-4 c =
     let p5 = c .before .before .before .before .before in
     let p7 = p5 .before .before in
     let p11 = p7 .before .before .before .before in
-    omega (arith, p11, byte-inside _ _ _ (p7 .byte-at .ensures ∙ p5 .b2 .given .1))
+    omega (arith, p11, byte-inside _ _ _ (p7 .read-byte .ensures ∙ p5 .b2 .given .1))
 
 done-requires-8 : tie.Need-done-requires-8
 done-requires-8 c κs = search needs
@@ -132,8 +132,8 @@ enum-told-13 c = search needs
 enum-told-14 : tie.Need-enum-told-14
 enum-told-14 c = search needs
 
-byte-at-requires-2 : tie.Need-byte-at-requires-2
-byte-at-requires-2 c κs = search needs
+read-byte-requires-2 : tie.Need-read-byte-requires-2
+read-byte-requires-2 c κs = search needs
 
 enum-known-b-3 : tie.Need-enum-known-b-3
 enum-known-b-3 c = search needs
@@ -149,7 +149,7 @@ add-done-5 c =
     let p5 = c .before .before .before .before .before in
     let p7 = p5 .before .before in
     let p11 = p7 .before .before .before .before in
-    omega (arith, p11, byte-inside _ _ _ (p7 .byte-at2 .ensures ∙ p5 .b3 .given .1))
+    omega (arith, p11, byte-inside _ _ _ (p7 .read-byte2 .ensures ∙ p5 .b3 .given .1))
 
 done-requires-9 : tie.Need-done-requires-9
 done-requires-9 c κs = search needs
@@ -169,8 +169,8 @@ done-requires-10 c κs = search needs
 enum-told-18 : tie.Need-enum-told-18
 enum-told-18 c = search needs
 
-text-at-requires-3 : tie.Need-text-at-requires-3
-text-at-requires-3 c κs = search needs
+read-text-requires-3 : tie.Need-read-text-requires-3
+read-text-requires-3 c κs = search needs
 
 enum-known-t-3 : tie.Need-enum-known-t-3
 enum-known-t-3 c = search needs
@@ -179,7 +179,7 @@ add-done-6 : tie.Need-add-done-6
 add-done-6 c =
     let p4 = c .before .before .before .before in
     let p8 = p4 .before .before .before .before in
-    omega (arith, p8, text-inside _ _ _ (p4 .text-at3 .ensures ∙ c .before .before .t3 .given .1))
+    omega (arith, p8, text-inside _ _ _ (p4 .read-text3 .ensures ∙ c .before .before .t3 .given .1))
 
 done-requires-11 : tie.Need-done-requires-11
 done-requires-11 c κs = search needs
@@ -190,8 +190,8 @@ enum-told-19 c = search needs
 enum-told-20 : tie.Need-enum-told-20
 enum-told-20 c = search needs
 
-text-at-requires-4 : tie.Need-text-at-requires-4
-text-at-requires-4 c κs = search needs
+read-text-requires-4 : tie.Need-read-text-requires-4
+read-text-requires-4 c κs = search needs
 
 enum-known-t-4 : tie.Need-enum-known-t-4
 enum-known-t-4 c = search needs
@@ -200,10 +200,10 @@ add-end : tie.Need-add-end
 add-end c =
     let p4 = c .before .before .before .before in
     let p8 = p4 .before .before .before .before in
-    omega (arith, p8, text-inside _ _ _ (p4 .text-at4 .ensures ∙ c .before .before .t4 .given .1))
+    omega (arith, p8, text-inside _ _ _ (p4 .read-text4 .ensures ∙ c .before .before .t4 .given .1))
 
-byte-at-requires-3 : tie.Need-byte-at-requires-3
-byte-at-requires-3 c κs = search needs
+read-byte-requires-3 : tie.Need-read-byte-requires-3
+read-byte-requires-3 c κs = search needs
 
 enum-known-n : tie.Need-enum-known-n
 enum-known-n c = search needs
@@ -212,7 +212,7 @@ add-done-7 : tie.Need-add-done-7
 add-done-7 c =
     let p3 = c .before .before .before in
     let p12 = p3 .before .before .before .before .before .before .before .before .before in
-    omega (arith, p12, byte-inside _ _ _ (p3 .byte-at3 .ensures ∙ c .before .n .given .1))
+    omega (arith, p12, byte-inside _ _ _ (p3 .read-byte3 .ensures ∙ c .before .n .given .1))
 
 done-requires-12 : tie.Need-done-requires-12
 done-requires-12 c κs = search needs
@@ -226,8 +226,8 @@ enum-told-22 c = search needs
 enum-told-23 : tie.Need-enum-told-23
 enum-told-23 c = search needs
 
-byte-at-requires-4 : tie.Need-byte-at-requires-4
-byte-at-requires-4 c κs = search needs
+read-byte-requires-4 : tie.Need-read-byte-requires-4
+read-byte-requires-4 c κs = search needs
 
 enum-known-n-2 : tie.Need-enum-known-n-2
 enum-known-n-2 c = search needs
@@ -236,7 +236,7 @@ add-done-8 : tie.Need-add-done-8
 add-done-8 c =
     let p3 = c .before .before .before in
     let p7 = p3 .before .before .before .before in
-    omega (arith, p7, byte-inside _ _ _ (p3 .byte-at4 .ensures ∙ c .before .n2 .given .1))
+    omega (arith, p7, byte-inside _ _ _ (p3 .read-byte4 .ensures ∙ c .before .n2 .given .1))
 
 done-requires-13 : tie.Need-done-requires-13
 done-requires-13 c κs = search needs
@@ -267,13 +267,13 @@ unfolding fieldsAt
 returns-5 c =
     let p4 = c .before .before .before .before in
     let p5 = p4 .before in
-    simp (fieldsAt, p5 .enum-told4 .given .1, p4 .bits-at .ensures, c .before .before .b .given .1, c .done4 .ensures)
+    simp (fieldsAt, p5 .enum-told4 .given .1, p4 .read-bits .ensures, c .before .before .b .given .1, c .done4 .ensures)
 
 returns-6 : tie.Need-returns-6
 unfolding fieldsAt
 returns-6 c =
     let p3 = c .before .before .before in
-    simp (fieldsAt, p3 .enum-told4 .given .1, c .before .before .bits-at .ensures, c .enum-told5 .given .1)
+    simp (fieldsAt, p3 .enum-told4 .given .1, c .before .before .read-bits .ensures, c .enum-told5 .given .1)
 
 returns-7 : tie.Need-returns-7
 unfolding fieldsAt
@@ -281,13 +281,13 @@ returns-7 c =
     let p3 = c .before .before .before in
     let p5 = p3 .before .before in
     let p6 = p5 .before in
-    simp (fieldsAt, p6 .enum-told6 .given .1, p5 .text-at .ensures, p3 .t .given .1, c .done5 .ensures)
+    simp (fieldsAt, p6 .enum-told6 .given .1, p5 .read-text .ensures, p3 .t .given .1, c .done5 .ensures)
 
 returns-8 : tie.Need-returns-8
 unfolding fieldsAt
 returns-8 c =
     let p3 = c .before .before .before in
-    simp (fieldsAt, p3 .enum-told6 .given .1, c .before .before .text-at .ensures, c .enum-told7 .given .1)
+    simp (fieldsAt, p3 .enum-told6 .given .1, c .before .before .read-text .ensures, c .enum-told7 .given .1)
 
 returns-9 : tie.Need-returns-9
 unfolding fieldsAt
@@ -299,13 +299,13 @@ returns-10 c =
     let p3 = c .before .before .before in
     let p5 = p3 .before .before in
     let p6 = p5 .before in
-    simp (fieldsAt, p6 .enum-told9 .given .1, p5 .text-at2 .ensures, p3 .t2 .given .1, c .done7 .ensures)
+    simp (fieldsAt, p6 .enum-told9 .given .1, p5 .read-text2 .ensures, p3 .t2 .given .1, c .done7 .ensures)
 
 returns-11 : tie.Need-returns-11
 unfolding fieldsAt
 returns-11 c =
     let p3 = c .before .before .before in
-    simp (fieldsAt, p3 .enum-told9 .given .1, c .before .before .text-at2 .ensures, c .enum-told10 .given .1)
+    simp (fieldsAt, p3 .enum-told9 .given .1, c .before .before .read-text2 .ensures, c .enum-told10 .given .1)
 
 returns-12 : tie.Need-returns-12
 unfolding fieldsAt
@@ -314,7 +314,7 @@ returns-12 c =
     let p6 = p4 .before .before in
     let p8 = p6 .before .before in
     let p9 = p8 .before in
-    simp (fieldsAt, p9 .enum-told11 .given .1, p8 .byte-at .ensures, p6 .b2 .given .1, p4 .from-u8 .ensures, c .before .before .o .given .1, c .done8 .ensures)
+    simp (fieldsAt, p9 .enum-told11 .given .1, p8 .read-byte .ensures, p6 .b2 .given .1, p4 .from-u8 .ensures, c .before .before .o .given .1, c .done8 .ensures)
 
 returns-13 : tie.Need-returns-13
 unfolding fieldsAt
@@ -322,13 +322,13 @@ returns-13 c =
     let p4 = c .before .before .before .before in
     let p6 = p4 .before .before in
     let p7 = p6 .before in
-    simp (fieldsAt, p7 .enum-told11 .given .1, p6 .byte-at .ensures, p4 .b2 .given .1, c .before .before .from-u8 .ensures, c .enum-told12 .given .1)
+    simp (fieldsAt, p7 .enum-told11 .given .1, p6 .read-byte .ensures, p4 .b2 .given .1, c .before .before .from-u8 .ensures, c .enum-told12 .given .1)
 
 returns-14 : tie.Need-returns-14
 unfolding fieldsAt
 returns-14 c =
     let p3 = c .before .before .before in
-    simp (fieldsAt, p3 .enum-told11 .given .1, c .before .before .byte-at .ensures, c .enum-told13 .given .1)
+    simp (fieldsAt, p3 .enum-told11 .given .1, c .before .before .read-byte .ensures, c .enum-told13 .given .1)
 
 returns-15 : tie.Need-returns-15
 unfolding fieldsAt
@@ -337,7 +337,7 @@ returns-15 c =
     let p6 = p4 .before .before in
     let p8 = p6 .before .before in
     let p9 = p8 .before in
-    simp (fieldsAt, p9 .enum-told14 .given .1, p8 .byte-at2 .ensures, p6 .b3 .given .1, p4 .from-u82 .ensures, c .before .before .o2 .given .1, c .done9 .ensures)
+    simp (fieldsAt, p9 .enum-told14 .given .1, p8 .read-byte2 .ensures, p6 .b3 .given .1, p4 .from-u82 .ensures, c .before .before .o2 .given .1, c .done9 .ensures)
 
 returns-16 : tie.Need-returns-16
 unfolding fieldsAt
@@ -345,13 +345,13 @@ returns-16 c =
     let p4 = c .before .before .before .before in
     let p6 = p4 .before .before in
     let p7 = p6 .before in
-    simp (fieldsAt, p7 .enum-told14 .given .1, p6 .byte-at2 .ensures, p4 .b3 .given .1, c .before .before .from-u82 .ensures, c .enum-told15 .given .1)
+    simp (fieldsAt, p7 .enum-told14 .given .1, p6 .read-byte2 .ensures, p4 .b3 .given .1, c .before .before .from-u82 .ensures, c .enum-told15 .given .1)
 
 returns-17 : tie.Need-returns-17
 unfolding fieldsAt
 returns-17 c =
     let p3 = c .before .before .before in
-    simp (fieldsAt, p3 .enum-told14 .given .1, c .before .before .byte-at2 .ensures, c .enum-told16 .given .1)
+    simp (fieldsAt, p3 .enum-told14 .given .1, c .before .before .read-byte2 .ensures, c .enum-told16 .given .1)
 
 returns-18 : tie.Need-returns-18
 unfolding fieldsAt
@@ -363,13 +363,13 @@ returns-19 c =
     let p3 = c .before .before .before in
     let p5 = p3 .before .before in
     let p6 = p5 .before in
-    simp (fieldsAt, p6 .enum-told18 .given .1, p5 .text-at3 .ensures, p3 .t3 .given .1, c .done11 .ensures)
+    simp (fieldsAt, p6 .enum-told18 .given .1, p5 .read-text3 .ensures, p3 .t3 .given .1, c .done11 .ensures)
 
 returns-20 : tie.Need-returns-20
 unfolding fieldsAt
 returns-20 c =
     let p3 = c .before .before .before in
-    simp (fieldsAt, p3 .enum-told18 .given .1, c .before .before .text-at3 .ensures, c .enum-told19 .given .1)
+    simp (fieldsAt, p3 .enum-told18 .given .1, c .before .before .read-text3 .ensures, c .enum-told19 .given .1)
 
 returns-21 : tie.Need-returns-21
 unfolding fieldsAt
@@ -378,7 +378,7 @@ returns-21 c =
     let p7 = p4 .before .before .before in
     let p9 = p7 .before .before in
     let p10 = p9 .before in
-    simp (fieldsAt, p10 .enum-told20 .given .1, p9 .text-at4 .ensures, p7 .t4 .given .1, p4 .byte-at3 .ensures, c .before .before .n .given .1, c .done12 .ensures)
+    simp (fieldsAt, p10 .enum-told20 .given .1, p9 .read-text4 .ensures, p7 .t4 .given .1, p4 .read-byte3 .ensures, c .before .before .n .given .1, c .done12 .ensures)
 
 returns-22 : tie.Need-returns-22
 unfolding fieldsAt
@@ -386,26 +386,26 @@ returns-22 c =
     let p5 = c .before .before .before .before .before in
     let p7 = p5 .before .before in
     let p8 = p7 .before in
-    simp (fieldsAt, p8 .enum-told20 .given .1, p7 .text-at4 .ensures, p5 .t4 .given .1, c .before .before .byte-at3 .ensures, c .enum-told21 .given .1)
+    simp (fieldsAt, p8 .enum-told20 .given .1, p7 .read-text4 .ensures, p5 .t4 .given .1, c .before .before .read-byte3 .ensures, c .enum-told21 .given .1)
 
 returns-23 : tie.Need-returns-23
 unfolding fieldsAt
 returns-23 c =
     let p3 = c .before .before .before in
-    simp (fieldsAt, p3 .enum-told20 .given .1, c .before .before .text-at4 .ensures, c .enum-told22 .given .1)
+    simp (fieldsAt, p3 .enum-told20 .given .1, c .before .before .read-text4 .ensures, c .enum-told22 .given .1)
 
 returns-24 : tie.Need-returns-24
 unfolding fieldsAt
 returns-24 c =
     let p4 = c .before .before .before .before in
     let p5 = p4 .before in
-    simp (fieldsAt, p5 .enum-told23 .given .1, p4 .byte-at4 .ensures, c .before .before .n2 .given .1, c .done13 .ensures)
+    simp (fieldsAt, p5 .enum-told23 .given .1, p4 .read-byte4 .ensures, c .before .before .n2 .given .1, c .done13 .ensures)
 
 returns-25 : tie.Need-returns-25
 unfolding fieldsAt
 returns-25 c =
     let p3 = c .before .before .before in
-    simp (fieldsAt, p3 .enum-told23 .given .1, c .before .before .byte-at4 .ensures, c .enum-told24 .given .1)
+    simp (fieldsAt, p3 .enum-told23 .given .1, c .before .before .read-byte4 .ensures, c .enum-told24 .given .1)
 
 returns-26 : tie.Need-returns-26
 unfolding fieldsAt
@@ -422,13 +422,13 @@ read-fields-spec =
     enum-told-3
     done-requires-3
     enum-told-4
-    bits-at-requires
+    read-bits-requires
     enum-known-b
     add-done
     done-requires-4
     enum-told-5
     enum-told-6
-    text-at-requires
+    read-text-requires
     enum-known-t
     add-done-2
     done-requires-5
@@ -437,13 +437,13 @@ read-fields-spec =
     done-requires-6
     returns
     enum-told-9
-    text-at-requires-2
+    read-text-requires-2
     enum-known-t-2
     add-done-3
     done-requires-7
     enum-told-10
     enum-told-11
-    byte-at-requires
+    read-byte-requires
     enum-known-b-2
     from-u8-requires
     enum-known-o
@@ -452,7 +452,7 @@ read-fields-spec =
     enum-told-12
     enum-told-13
     enum-told-14
-    byte-at-requires-2
+    read-byte-requires-2
     enum-known-b-3
     from-u8-requires-2
     enum-known-o-2
@@ -463,23 +463,23 @@ read-fields-spec =
     enum-told-17
     done-requires-10
     enum-told-18
-    text-at-requires-3
+    read-text-requires-3
     enum-known-t-3
     add-done-6
     done-requires-11
     enum-told-19
     enum-told-20
-    text-at-requires-4
+    read-text-requires-4
     enum-known-t-4
     add-end
-    byte-at-requires-3
+    read-byte-requires-3
     enum-known-n
     add-done-7
     done-requires-12
     enum-told-21
     enum-told-22
     enum-told-23
-    byte-at-requires-4
+    read-byte-requires-4
     enum-known-n-2
     add-done-8
     done-requires-13

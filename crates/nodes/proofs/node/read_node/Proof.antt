@@ -8,8 +8,8 @@ use borrow.Author.Needs.{needs}
 use Rattle.nodes.proofs.node.read_node.Statement.{statement}
 use Rattle.nodes.proofs.node.read_node.Tie as tie
 
-byte-at-requires : tie.Need-byte-at-requires
-byte-at-requires c κs = search needs
+read-byte-requires : tie.Need-read-byte-requires
+read-byte-requires c κs = search needs
 
 enum-known-b : tie.Need-enum-known-b
 enum-known-b c = search needs
@@ -19,7 +19,7 @@ enum-told c = search needs
 
 returns : tie.Need-returns
 unfolding nodeAt
-returns c = simp (nodeAt, c .before .before .byte-at .ensures, c .enum-told .given .1)
+returns c = simp (nodeAt, c .before .before .read-byte .ensures, c .enum-told .given .1)
 
 from-u8-requires : tie.Need-from-u8-requires
 from-u8-requires c κs = search needs
@@ -35,16 +35,16 @@ unfolding nodeAt
 returns-2 c =
     let p4 = c .before .before .before .before in
     let p6 = p4 .before .before in
-    simp (nodeAt, p6 .byte-at .ensures, p4 .b .given .1, c .before .before .from-u8 .ensures, c .enum-told2 .given .1)
+    simp (nodeAt, p6 .read-byte .ensures, p4 .b .given .1, c .before .before .from-u8 .ensures, c .enum-told2 .given .1)
 
-add-byte-at : tie.Need-add-byte-at
-add-byte-at c =
+add-read-byte : tie.Need-add-read-byte
+add-read-byte c =
     let p5 = c .before .before .before .before .before in
     let p7 = p5 .before .before in
-    omega (arith, byte-inside _ _ _ (p7 .byte-at .ensures ∙ p5 .b .given .1))
+    omega (arith, byte-inside _ _ _ (p7 .read-byte .ensures ∙ p5 .b .given .1))
 
-byte-at-requires-2 : tie.Need-byte-at-requires-2
-byte-at-requires-2 c κs = search needs
+read-byte-requires-2 : tie.Need-read-byte-requires-2
+read-byte-requires-2 c κs = search needs
 
 enum-known-map : tie.Need-enum-known-map
 enum-known-map c = search needs
@@ -59,7 +59,7 @@ returns-3 c =
     let p6 = p4 .before .before in
     let p8 = p6 .before .before in
     let p10 = p8 .before .before in
-    simp (nodeAt, p10 .byte-at .ensures, p8 .b .given .1, p6 .from-u8 .ensures, p4 .kind .given .1, c .before .before .byte-at2 .ensures, c .enum-told3 .given .1)
+    simp (nodeAt, p10 .read-byte .ensures, p8 .b .given .1, p6 .from-u8 .ensures, p4 .kind .given .1, c .before .before .read-byte2 .ensures, c .enum-told3 .given .1)
 
 map-requires : tie.Need-map-requires
 map-requires c κs = search needs
@@ -73,14 +73,14 @@ returns-4 c =
     let p9 = p7 .before .before in
     let p11 = p9 .before .before in
     let p13 = p11 .before .before in
-    simp (nodeAt, p13 .byte-at .ensures, p11 .b .given .1, p9 .from-u8 .ensures, p7 .kind .given .1, p5 .byte-at2 .ensures, p3 .map .given .1, c .before .map2 .ensures, ne-eqb _ _ (c .if1 .taken))
+    simp (nodeAt, p13 .read-byte .ensures, p11 .b .given .1, p9 .from-u8 .ensures, p7 .kind .given .1, p5 .read-byte2 .ensures, p3 .map .given .1, c .before .map2 .ensures, ne-eqb _ _ (c .if1 .taken))
 
 add-read-fields : tie.Need-add-read-fields
 add-read-fields c =
     let p4 = c .before .before .before .before in
     let p6 = p4 .before .before in
     let p16 = p6 .before .before .before .before .before .before .before .before .before .before in
-    omega (arith, p16, byte-inside _ _ _ (p6 .byte-at2 .ensures ∙ p4 .map .given .1))
+    omega (arith, p16, byte-inside _ _ _ (p6 .read-byte2 .ensures ∙ p4 .map .given .1))
 
 read-fields-requires : tie.Need-read-fields-requires
 read-fields-requires c κs = search needs
@@ -95,17 +95,17 @@ returns-5 c =
     let p11 = p9 .before .before in
     let p13 = p11 .before .before in
     let p15 = p13 .before .before in
-    simp (nodeAt, p15 .byte-at .ensures, p13 .b .given .1, p11 .from-u8 .ensures, p9 .kind .given .1, p7 .byte-at2 .ensures, p5 .map .given .1, p3 .map2 .ensures, eq-eqb _ _ (c .before .before .if1 .left), eq-eqb _ _ (c .before .if2 .taken), c .read-fields .ensures)
+    simp (nodeAt, p15 .read-byte .ensures, p13 .b .given .1, p11 .from-u8 .ensures, p9 .kind .given .1, p7 .read-byte2 .ensures, p5 .map .given .1, p3 .map2 .ensures, eq-eqb _ _ (c .before .before .if1 .left), eq-eqb _ _ (c .before .if2 .taken), c .read-fields .ensures)
 
-add-line-at : tie.Need-add-line-at
-add-line-at c =
+add-read-line : tie.Need-add-read-line
+add-read-line c =
     let p4 = c .before .before .before .before in
     let p6 = p4 .before .before in
     let p16 = p6 .before .before .before .before .before .before .before .before .before .before in
-    omega (arith, p16, byte-inside _ _ _ (p6 .byte-at2 .ensures ∙ p4 .map .given .1))
+    omega (arith, p16, byte-inside _ _ _ (p6 .read-byte2 .ensures ∙ p4 .map .given .1))
 
-line-at-requires : tie.Need-line-at-requires
-line-at-requires c κs = search needs
+read-line-requires : tie.Need-read-line-requires
+read-line-requires c κs = search needs
 
 enum-known-l : tie.Need-enum-known-l
 enum-known-l c = search needs
@@ -125,13 +125,13 @@ returns-6 c =
     let p13 = p11 .before .before in
     let p15 = p13 .before .before in
     let p17 = p15 .before .before in
-    simp (nodeAt, p17 .byte-at .ensures, p15 .b .given .1, p13 .from-u8 .ensures, p11 .kind .given .1, p9 .byte-at2 .ensures, p7 .map .given .1, p5 .map2 .ensures, eq-eqb _ _ (p4 .if1 .left), ne-eqb _ _ (p3 .if2 .left), c .before .before .line-at .ensures, c .enum-told4 .given .1)
+    simp (nodeAt, p17 .read-byte .ensures, p15 .b .given .1, p13 .from-u8 .ensures, p11 .kind .given .1, p9 .read-byte2 .ensures, p7 .map .given .1, p5 .map2 .ensures, eq-eqb _ _ (p4 .if1 .left), ne-eqb _ _ (p3 .if2 .left), c .before .before .read-line .ensures, c .enum-told4 .given .1)
 
 add-read-fields-2 : tie.Need-add-read-fields-2
 add-read-fields-2 c =
     let p3 = c .before .before .before in
     let p20 = p3 .before .before .before .before .before .before .before .before .before .before .before .before .before .before .before .before .before in
-    omega (arith, p20, line-inside _ _ _ (p3 .line-at .ensures ∙ c .before .l .given .1))
+    omega (arith, p20, line-inside _ _ _ (p3 .read-line .ensures ∙ c .before .l .given .1))
 
 read-fields-requires-2 : tie.Need-read-fields-requires-2
 read-fields-requires-2 c κs = search needs
@@ -149,13 +149,13 @@ returns-7 c =
     let p15 = p13 .before .before in
     let p17 = p15 .before .before in
     let p19 = p17 .before .before in
-    simp (nodeAt, p19 .byte-at .ensures, p17 .b .given .1, p15 .from-u8 .ensures, p13 .kind .given .1, p11 .byte-at2 .ensures, p9 .map .given .1, p7 .map2 .ensures, eq-eqb _ _ (p6 .if1 .left), ne-eqb _ _ (p5 .if2 .left), p4 .line-at .ensures, c .before .before .l .given .1, c .read-fields2 .ensures)
+    simp (nodeAt, p19 .read-byte .ensures, p17 .b .given .1, p15 .from-u8 .ensures, p13 .kind .given .1, p11 .read-byte2 .ensures, p9 .map .given .1, p7 .map2 .ensures, eq-eqb _ _ (p6 .if1 .left), ne-eqb _ _ (p5 .if2 .left), p4 .read-line .ensures, c .before .before .l .given .1, c .read-fields2 .ensures)
 
 pub read-node-spec : {M : Type 1} → statement M
 read-node-spec =
     tie.close
     (tie.spec
-    byte-at-requires
+    read-byte-requires
     enum-known-b
     enum-told
     returns
@@ -163,8 +163,8 @@ read-node-spec =
     enum-known-kind
     enum-told-2
     returns-2
-    add-byte-at
-    byte-at-requires-2
+    add-read-byte
+    read-byte-requires-2
     enum-known-map
     enum-told-3
     returns-3
@@ -173,8 +173,8 @@ read-node-spec =
     add-read-fields
     read-fields-requires
     returns-5
-    add-line-at
-    line-at-requires
+    add-read-line
+    read-line-requires
     enum-known-l
     enum-told-4
     returns-6

@@ -1,0 +1,55 @@
+// The lowering for controllers: one function that C calls (include/fuchsiarasp.h).
+ghost use mathlib.Core.Path.{_≡_};
+ghost use lib.ListN.{length, set};
+ghost use Rattle.buffers.specs.Pad.{pad};
+ghost use Rattle.model.specs.Claims.{sizes, Padded, Faithful};
+ghost use Rattle.model.specs.Lowering.{lowered};
+ghost use Rattle.emission.specs.Parts.{bufs};
+ghost use Rattle.controller.specs.Told.{numberFor, countsFor, told, telling};
+use buffers::clear_values;
+use lowering::lower;
+use model::Lowered;
+
+// A count at index i, where the buffer reaches so far.
+fn put(counts: &mut [u64], i: usize, count: usize)
+    ensures { λ _. ⌜ set (now (counts .entry)) i count ≡ now (counts .exit) ⌝ }
+{
+    if i < counts.len() {
+        counts[i] = count as u64;
+    }
+}
+
+// The answer's number; the counts in their buffer.
+fn tell(answer: Lowered, counts: &mut [u64]) -> u32
+    ensures { λ r. ⌜ (numberFor answer ≡ r) × (pad (length (now (counts .entry))) (countsFor answer) ≡ now (counts .exit)) ⌝ }
+{
+    clear_values(counts);
+    match answer {
+        Lowered::Done(k) => {
+            put(counts, 0, k.words);
+            put(counts, 1, k.constants);
+            put(counts, 2, k.text);
+            put(counts, 3, k.frame);
+            0
+        }
+        Lowered::Refused(k) => k.number(),
+    }
+}
+
+// `lower` for C: 0 or the refusal's number; the counts in a buffer of their own, as many of the four as fit.
+#[no_mangle]
+pub extern "C" fn fuchsiarasp_lower(
+    chunk: &[u8],
+    code: &mut [u32],
+    lines: &mut [u32],
+    kinds: &mut [u8],
+    values: &mut [u64],
+    pool: &mut [u8],
+    scratch: &mut [u32],
+    counts: &mut [u64],
+) -> u32
+    ensures { λ r. ⌜ (told (length (now (counts .entry))) (lowered (sizes (bufs (now (code .entry)) (now (lines .entry)) (now (kinds .entry)) (now (values .entry)) (now (pool .entry))) (length (now (scratch .entry)))) (now (chunk .entry))) ≡ telling r (bufs (now (code .exit)) (now (lines .exit)) (now (kinds .exit)) (now (values .exit)) (now (pool .exit))) (now (scratch .exit)) (now (counts .exit))) × (Padded (sizes (bufs (now (code .entry)) (now (lines .entry)) (now (kinds .entry)) (now (values .entry)) (now (pool .entry))) (length (now (scratch .entry)))) (now (chunk .entry)) (lowered (sizes (bufs (now (code .entry)) (now (lines .entry)) (now (kinds .entry)) (now (values .entry)) (now (pool .entry))) (length (now (scratch .entry)))) (now (chunk .entry)) .answer) (bufs (now (code .exit)) (now (lines .exit)) (now (kinds .exit)) (now (values .exit)) (now (pool .exit))) (now (scratch .exit)) × Faithful (now (chunk .entry)) (lowered (sizes (bufs (now (code .entry)) (now (lines .entry)) (now (kinds .entry)) (now (values .entry)) (now (pool .entry))) (length (now (scratch .entry)))) (now (chunk .entry)) .answer) (bufs (now (code .exit)) (now (lines .exit)) (now (kinds .exit)) (now (values .exit)) (now (pool .exit)))) ⌝ }
+{
+    let answer = lower(chunk, code, lines, kinds, values, pool, scratch);
+    tell(answer, counts)
+}

@@ -1,0 +1,73 @@
+-- What is claimed of a lowering, in the words of the three demands: what the buffers hold, and that running the words is reading the formulas. Statements only; their proofs are the theorems `padded` and `faithful`. Assumes nothing.
+use Prim.Native.Nat.{ℕ, _-_, _≤_, _<_}
+use mathlib.Core.Path.{_≡_}
+use mathlib.Core.List.{List, _++_}
+use mathlib.Core.Option.{some}
+use lib.ListN.{length, getD, take}
+use Rattle.buffers.specs.Pad.{zeros}
+use Rattle.constants.specs.Entry.{Constant}
+use Rattle.constants.specs.Distinct.{constantAt, Inside}
+use Rattle.chunk.specs.Ast.{Chunk, spansOf}
+use Rattle.chunk.specs.Form.{formed, formOf}
+use Rattle.chunk.specs.Walks.{placesOf}
+use Rattle.model.specs.declared.Counts.{Counts}
+use Rattle.model.specs.declared.Lowered.{Lowered}
+use Rattle.model.specs.declared.Lowered.the-variants as answer
+use Rattle.model.specs.Values.{Value, World}
+use Rattle.model.specs.Reading.{reading}
+use Rattle.model.specs.Running.{Program, returned, run}
+use Rattle.model.specs.Steps.{Buffers}
+use Rattle.model.specs.Lowering.{Sizes, cleared, out, lowered}
+
+-- the lengths of these buffers and of a scratch of n numbers
+abbrev pub sizes : Buffers → ℕ → Sizes
+sizes m n = record { code = length (m .code); lines = length (m .lines); kinds = length (m .kinds); values = length (m .values); pool = length (m .pool); scratch = n }
+
+-- ---- demand 1
+
+-- a buffer of n numbers: so many that are used, and then zeros
+pub record Filled (n used : ℕ) (l : List ℕ) : Type 0 where
+  pub long : length l ≡ n
+  pub fits : used ≤ n
+  pub then : l ≡ take used l ++ zeros (n - used)
+
+-- what success leaves: as much as the counts say and then zeros, listed constants that differ, texts in the counted bytes, and the places of the nodes
+pub record Left (z : Sizes) (chunk : List ℕ) (k : Counts) (m : Buffers) (scratch : List ℕ) : Type 0 where
+  pub code : Filled (z .code) (k .words) (m .code)
+  pub lines : Filled (z .lines) (k .words) (m .lines)
+  pub kinds : Filled (z .kinds) (k .constants) (m .kinds)
+  pub values : Filled (z .values) (k .constants) (m .values)
+  pub pool : Filled (z .pool) (k .text) (m .pool)
+  pub entries : (i : ℕ) → i < k .constants → (c : Constant) × (constantAt (m .pool) (m .kinds) (m .values) i ≡ some c)
+  pub texts : (i : ℕ) → i < k .constants → getD (m .kinds) i 0 ≡ 4 → Inside (k .text) (getD (m .values) i 0)
+  pub differ : (i j : ℕ) → i < j → j < k .constants → constantAt (m .pool) (m .kinds) (m .values) i ≡ constantAt (m .pool) (m .kinds) (m .values) j → ⊥
+  pub frame : k .frame ≤ 250
+  pub tree : Chunk
+  pub form : formOf chunk ≡ formed tree
+  pub room : length (placesOf (spansOf (tree .formulas))) ≤ z .scratch
+  pub places : scratch ≡ placesOf (spansOf (tree .formulas)) ++ zeros (z .scratch - length (placesOf (spansOf (tree .formulas))))
+
+-- a refusal leaves only zeros
+abbrev pub Padded : Sizes → List ℕ → Lowered → Buffers → List ℕ → Type 0
+Padded z chunk (answer.Done k) m scratch = Left z chunk k m scratch
+Padded z chunk (answer.Refused x) m scratch = (m ≡ cleared z) × (scratch ≡ zeros (z .scratch))
+
+-- ---- demand 3
+
+-- counts and buffers as a program: the words, constants and frame that are counted
+abbrev pub program : Counts → Buffers → Program
+program k m = record { words = take (k .words) (m .code); constants = k .constants; kinds = m .kinds; values = m .values; pool = m .pool; frame = k .frame }
+
+-- the run returns, with the values and the outward steps of the reading, after no more words carried out than there are
+abbrev pub Runs-as-read : List ℕ → Chunk → World → List Value → List Value → Counts → Buffers → Type 0
+Runs-as-read chunk c w locals varargs k m = (n : ℕ) × ((n ≤ k .words) × (run w (program k m) locals varargs ≡ returned (reading w chunk c locals varargs .gives) (reading w chunk c locals varargs .steps) n))
+
+-- where the answer is counts: the chunk has a form, and whatever the outside, the locals and the varargs, running the words is reading its formulas
+abbrev pub Faithful : List ℕ → Lowered → Buffers → Type 0
+Faithful chunk (answer.Done k) m = (c : Chunk) × ((formOf chunk ≡ formed c) × ((w : World) (locals varargs : List Value) → length locals ≡ length (c .names) → Runs-as-read chunk c w locals varargs k m))
+Faithful chunk (answer.Refused k) m = Unit {0}
+
+-- ---- all that is promised of a lowering: the answer and every buffer are those of the definition, whole; and, of these, demands 1 and 3
+
+abbrev pub Lowers : Sizes → List ℕ → Lowered → Buffers → List ℕ → Type 0
+Lowers z chunk r m scratch = (lowered z chunk ≡ out r m scratch) × (Padded z chunk r m scratch × Faithful chunk r m)

@@ -1,0 +1,118 @@
+//! Time per node: ours (the whole call, clearing included) against the unchanged Rust, in one run.
+use crate::chunk;
+use crate::chunks::{Rng, Writer};
+use crate::ours::{Buffers, Sizes};
+use rilua::compiler::codegen;
+use std::hint::black_box;
+use std::time::Instant;
+
+const ROUNDS: usize = 31;
+
+/// A constant that repeats after so many: a global's name, or a number where one can't be folded, on the right of an operator.
+fn leaf(w: &mut Writer, r: &mut Rng, constants: usize, right: bool) {
+    let i = r.below(constants);
+    if i % 2 == 0 { w.name(format!("g{i}").as_bytes()) } else if right { w.double(i as f64 + 0.5) } else { w.name(format!("g{}", i - 1).as_bytes()) }
+}
+
+/// Operators of every sort that need two operands.
+fn binary(w: &mut Writer, r: &mut Rng) { let op = [0, 1, 2, 3, 4, 6, 7, 8, 9, 10, 11, 12, 13, 14][r.below(14)]; w.binary(op) }
+
+/// Exactly n nodes, split evenly: low nesting.
+fn flat(w: &mut Writer, r: &mut Rng, n: usize, constants: usize, right: bool) {
+    match n {
+        1 => leaf(w, r, constants, right),
+        2 => { w.unary(r.below(3) as u8); leaf(w, r, constants, false) }
+        _ => match r.below(8) {
+            0 => { w.unary(r.below(3) as u8); flat(w, r, n - 1, constants, false) }
+            1 => { w.field(b"g0"); flat(w, r, n - 1, constants, false) }
+            2 => { w.index(); let a = (n - 1) / 2; flat(w, r, a, constants, false); flat(w, r, n - 1 - a, constants, true) }
+            3 if n >= 4 => { w.call(2); let a = (n - 1) / 3; flat(w, r, a, constants, false); flat(w, r, a, constants, true); flat(w, r, n - 1 - 2 * a, constants, true) }
+            _ => { binary(w, r); let a = (n - 1) / 2; flat(w, r, a, constants, false); flat(w, r, n - 1 - a, constants, true) }
+        },
+    }
+}
+
+/// Exactly n nodes in one chain: a leaf beside each step down, on the right or, one time in four, on the left.
+fn deep(w: &mut Writer, r: &mut Rng, n: usize, constants: usize) {
+    match n {
+        1 => leaf(w, r, constants, false),
+        2 => { w.unary(r.below(3) as u8); leaf(w, r, constants, false) }
+        _ if r.one_in(4) => { binary(w, r); leaf(w, r, constants, false); deep(w, r, n - 2, constants) }
+        _ => { binary(w, r); deep(w, r, n - 2, constants); leaf(w, r, constants, true) }
+    }
+}
+
+/// n nodes in formulas of at most `each`.
+pub fn chunk_of(n: usize, each: usize, constants: usize, is_deep: bool) -> Vec<u8> {
+    let formulas = n.div_ceil(each);
+    let mut w = Writer::new(&[], false, formulas as u8);
+    let mut r = Rng::new((n * 7 + constants) as u64 + u64::from(is_deep));
+    for i in 0..formulas {
+        let m = n / formulas + usize::from(i < n % formulas);
+        if is_deep { deep(&mut w, &mut r, m, constants) } else { flat(&mut w, &mut r, m, constants, false) }
+    }
+    assert_eq!(w.nodes, n);
+    w.bytes
+}
+
+fn median(mut v: Vec<f64>) -> f64 { v.sort_by(f64::total_cmp); v[v.len() / 2] }
+
+/// Nanoseconds for one call, over k calls.
+fn time(k: usize, mut f: impl FnMut()) -> f64 {
+    let t = Instant::now();
+    for _ in 0..k { f(); }
+    t.elapsed().as_nanos() as f64 / k as f64
+}
+
+pub fn run(only: Option<&str>) {
+    println!("Nanoseconds per node, median of {ROUNDS} rounds in which the columns take turns.");
+    println!("ours: the whole call, from bytes, clearing included; `8n+1`: buffers of 8n + 1 words and lines, constants and text as needed, scratch n;");
+    println!("`weavelist`: 8192 words and lines, 2048 constants, 32768 text bytes, scratch 16384.");
+    println!("Rust: unchanged, built for speed, from trees already built; `+parse`: with the oracle's reading of the chunk. What the Rust hands back is built and dropped within the time.");
+    println!();
+    println!("| nodes | shape | constants | words | bytes | ours 8n+1 | ours weavelist | Rust | Rust +parse | ours 8n+1 / Rust | ours 8n+1 / Rust +parse |");
+    println!("|---|---|---|---|---|---|---|---|---|---|---|");
+    for n in [10usize, 1000, 10_000] {
+        for is_deep in [false, true] {
+            for constants in [4usize, 255] {
+                let shape = if is_deep { "deep" } else { "flat" };
+                if only.is_some_and(|o| o != format!("{n}-{shape}-{constants}")) { continue; }
+                let bytes = chunk_of(n, if is_deep { 390 } else { 100 }, constants, is_deep);
+                let tree = chunk::read(&bytes).expect("the form");
+                let rust = codegen::drive::drive(&tree.locals, tree.varargs, &tree.formulas).expect("accepted by the Rust");
+                let k = rust.consts.len();
+                let mut small = Buffers::new(&Sizes { code: 8 * n + 1, lines: 8 * n + 1, kinds: k, values: k, pool: rust.pool.len(), scratch: n, counts: 4 });
+                assert_eq!(small.lower(&bytes), 0, "accepted by ours");
+                assert_eq!(small.counts, [rust.code.len() as u64, k as u64, rust.pool.len() as u64, u64::from(rust.frame)]);
+                let mut weavelist = Buffers::new(&Sizes::WEAVELIST);
+                let refused = weavelist.lower(&bytes);
+                let calls = (40_000 / n).max(1);
+                let (mut a, mut b, mut c, mut d) = (Vec::new(), Vec::new(), Vec::new(), Vec::new());
+                for _ in 0..ROUNDS {
+                    a.push(time(calls, || { black_box(small.lower(black_box(&bytes))); }));
+                    c.push(time(calls, || { let _ = black_box(codegen::drive::drive(&tree.locals, tree.varargs, black_box(&tree.formulas))); }));
+                    b.push(time(calls, || { black_box(weavelist.lower(black_box(&bytes))); }));
+                    d.push(time(calls, || { let t = chunk::read(black_box(&bytes)).unwrap(); let _ = black_box(codegen::drive::drive(&t.locals, t.varargs, &t.formulas)); }));
+                }
+                let per = |v: Vec<f64>| median(v) / n as f64;
+                let (a, b, c, d) = (per(a), per(b), per(c), per(d));
+                let b = if refused == 0 { format!("{b:.1}") } else { format!("refused {refused}") };
+                println!("| {n} | {shape} | {k} | {} | {} | {a:.1} | {b} | {c:.1} | {d:.1} | {:.2} | {:.2} |", rust.code.len(), bytes.len(), a / c, a / d);
+            }
+        }
+    }
+}
+
+/// One of the two alone, so many times: for a profiler.
+pub fn profile(n: usize, is_deep: bool, constants: usize, rust: bool, times: usize) {
+    let bytes = chunk_of(n, if is_deep { 390 } else { 100 }, constants, is_deep);
+    let tree = chunk::read(&bytes).expect("the form");
+    let mut b = Buffers::new(&Sizes { code: 8 * n + 1, lines: 8 * n + 1, kinds: 300, values: 300, pool: 4096, scratch: n, counts: 4 });
+    for _ in 0..times {
+        if rust {
+            assert!(black_box(codegen::drive::drive(&tree.locals, tree.varargs, black_box(&tree.formulas))).is_ok());
+        } else {
+            assert_eq!(black_box(b.lower(black_box(&bytes))), 0);
+        }
+    }
+}

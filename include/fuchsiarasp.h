@@ -1,0 +1,80 @@
+/*
+ * Pattern formulas (Lua 5.1 expressions) to register code.
+ *
+ * The archive libcontroller.a (`rt staticlib controller`) defines fuchsiarasp_lower and needs only memset and memcpy beside it.
+ * It is for x86-64 Linux. It allocates nothing, keeps nothing between calls and reads and writes only what it is lent, so
+ * calls from several threads with buffers of their own don't meet.
+ */
+#ifndef FUCHSIARASP_H
+#define FUCHSIARASP_H
+
+#include <stddef.h>
+#include <stdint.h>
+
+#ifdef __cplusplus
+extern "C" {
+#endif
+
+/* Why a chunk is refused. 1 to 8 come from its form alone, 9 to 13 from the lowering. */
+enum fuchsiarasp_refusal {
+    FUCHSIARASP_TOO_LONG = 1,   /* the chunk is longer than 1,048,576 bytes */
+    FUCHSIARASP_MISSING = 2,    /* a byte that the form asks for isn't there */
+    FUCHSIARASP_MAP = 3,        /* a bit map has a bit that isn't taken there, or lacks one that is needed */
+    FUCHSIARASP_KIND = 4,       /* an unknown kind of node, or an unknown operator */
+    FUCHSIARASP_NESTING = 5,    /* a node at nesting 201 */
+    FUCHSIARASP_LOCALS = 6,     /* more than 200 locals */
+    FUCHSIARASP_VARARGS = 7,    /* a vararg in a chunk without varargs */
+    FUCHSIARASP_TRAILING = 8,   /* bytes after the last formula */
+    FUCHSIARASP_SCRATCH = 9,    /* the scratch is shorter than the number of nodes */
+    FUCHSIARASP_REGISTERS = 10, /* more than 250 registers */
+    FUCHSIARASP_CONSTANTS = 11, /* a new constant beyond the shorter of kinds and values, or beyond 262,144 entries */
+    FUCHSIARASP_POOL = 12,      /* its text doesn't fit the pool */
+    FUCHSIARASP_WORDS = 13      /* a word beyond the shorter of code and lines, or beyond 131,071 words */
+};
+
+/* What stands where in counts. */
+enum fuchsiarasp_count {
+    FUCHSIARASP_COUNT_WORDS = 0,
+    FUCHSIARASP_COUNT_CONSTANTS = 1,
+    FUCHSIARASP_COUNT_TEXT = 2,
+    FUCHSIARASP_COUNT_FRAME = 3
+};
+
+/*
+ * Lowers a chunk. Returns 0, or the number of the refusal.
+ *
+ * After 0 each buffer holds its result and then zeros to its end; after a refusal every buffer holds only zeros.
+ *
+ *   chunk    the chunk, which is only read
+ *   code     words of 32 bits; the last is Return
+ *   lines    the line of each word
+ *   kinds    the kind of each constant: 0 nil, 1 false, 2 true, 3 number, 4 text
+ *   values   the value of each constant: 0 for nil and truth values, the bits of the double, or a text's start in the pool * 65,536 + its length
+ *   pool     the bytes of the texts
+ *   scratch  the place of each node's kind byte in the chunk, in reading order
+ *   counts   words, constants, bytes of text, and registers (the frame), in this order: as many of the four as fit
+ *
+ * Each buffer is passed as a pointer and the number of its elements (not bytes); no length has to agree with another.
+ *
+ * What the caller owes:
+ *   - each pointer is valid for its number of elements and aligned for their type; for 0 elements it may point anywhere, but isn't null
+ *   - no two buffers overlap, and the chunk overlaps none
+ *
+ * Lengths beyond which nothing changes: 131,071 for code and lines, 262,144 for kinds and values, the chunk's length for the pool,
+ * the number of nodes (at most 524,287) for the scratch, 4 for counts.
+ */
+uint32_t fuchsiarasp_lower(
+    const uint8_t *chunk, size_t chunk_len,
+    uint32_t *code, size_t code_len,
+    uint32_t *lines, size_t lines_len,
+    uint8_t *kinds, size_t kinds_len,
+    uint64_t *values, size_t values_len,
+    uint8_t *pool, size_t pool_len,
+    uint32_t *scratch, size_t scratch_len,
+    uint64_t *counts, size_t counts_len);
+
+#ifdef __cplusplus
+}
+#endif
+
+#endif
