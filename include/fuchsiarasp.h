@@ -2,8 +2,9 @@
  * Pattern formulas (Lua 5.1 expressions) to register code.
  *
  * The archive libcontroller.a (`rt staticlib controller`) defines fuchsiarasp_lower and needs only memset and memcpy beside it.
- * It is for x86-64 Linux. It allocates nothing, keeps nothing between calls and reads and writes only what it is lent, so
- * calls from several threads with buffers of their own don't meet.
+ * It is for x86-64 Linux. It allocates nothing, keeps nothing between calls and reads and writes only what it is lent and its stack, so
+ * calls from several threads with buffers of their own don't meet. A call takes up to about 530 kB of stack (measured: calls nested
+ * as arguments to nesting 200; other chunks took less): have 1 MB.
  */
 #ifndef FUCHSIARASP_H
 #define FUCHSIARASP_H
@@ -28,7 +29,7 @@ enum fuchsiarasp_refusal {
     FUCHSIARASP_SCRATCH = 9,    /* the scratch is shorter than the number of nodes */
     FUCHSIARASP_REGISTERS = 10, /* more than 250 registers */
     FUCHSIARASP_CONSTANTS = 11, /* a new constant beyond the shorter of kinds and values, or beyond 262,144 entries */
-    FUCHSIARASP_POOL = 12,      /* its text doesn't fit the pool */
+    FUCHSIARASP_POOL = 12,      /* the text of a new constant doesn't fit the pool */
     FUCHSIARASP_WORDS = 13      /* a word beyond the shorter of code and lines, or beyond 131,071 words */
 };
 
@@ -46,7 +47,8 @@ enum fuchsiarasp_count {
  * After 0 each buffer holds its result and then zeros to its end; after a refusal every buffer holds only zeros.
  *
  *   chunk    the chunk, which is only read
- *   code     words of 32 bits; the last is Return
+ *   code     words of 32 bits, the last a Return: opcode (Lua 5.1's numbers) bits 0-5, A bits 6-13, C bits 14-22, B bits 23-31; Bx is bits 14-31,
+ *            sBx is Bx minus 131,071
  *   lines    the line of each word
  *   kinds    the kind of each constant: 0 nil, 1 false, 2 true, 3 number, 4 text
  *   values   the value of each constant: 0 for nil and truth values, the bits of the double, or a text's start in the pool * 65,536 + its length
@@ -57,7 +59,7 @@ enum fuchsiarasp_count {
  * Each buffer is passed as a pointer and the number of its elements (not bytes); no length has to agree with another.
  *
  * What the caller owes:
- *   - each pointer is valid for its number of elements and aligned for their type; for 0 elements it may point anywhere, but isn't null
+ *   - each pointer is valid for its number of elements and aligned for their type; for 0 elements it may point anywhere, but is aligned and isn't null
  *   - no two buffers overlap, and the chunk overlaps none
  *
  * Lengths beyond which nothing changes: 131,071 for code and lines, 262,144 for kinds and values, the chunk's length for the pool,

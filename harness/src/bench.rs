@@ -70,8 +70,8 @@ pub fn run(only: Option<&str>) {
     println!("`weavelist`: 8192 words and lines, 2048 constants, 32768 text bytes, scratch 16384.");
     println!("Rust: unchanged, built for speed, from trees already built; `+parse`: with the oracle's reading of the chunk. What the Rust hands back is built and dropped within the time.");
     println!();
-    println!("| nodes | shape | constants | words | bytes | ours 8n+1 | ours weavelist | Rust | Rust +parse | ours 8n+1 / Rust | ours 8n+1 / Rust +parse |");
-    println!("|---|---|---|---|---|---|---|---|---|---|---|");
+    println!("| nodes | shape | constants | words | bytes | ours 8n+1 | ours weavelist | Rust | Rust +parse | ours 8n+1 / Rust | ours 8n+1 / Rust +parse | ours weavelist / Rust |");
+    println!("|---|---|---|---|---|---|---|---|---|---|---|---|");
     for n in [10usize, 1000, 10_000] {
         for is_deep in [false, true] {
             for constants in [4usize, 255] {
@@ -96,8 +96,8 @@ pub fn run(only: Option<&str>) {
                 }
                 let per = |v: Vec<f64>| median(v) / n as f64;
                 let (a, b, c, d) = (per(a), per(b), per(c), per(d));
-                let b = if refused == 0 { format!("{b:.1}") } else { format!("refused {refused}") };
-                println!("| {n} | {shape} | {k} | {} | {} | {a:.1} | {b} | {c:.1} | {d:.1} | {:.2} | {:.2} |", rust.code.len(), bytes.len(), a / c, a / d);
+                let (b, to_rust) = if refused == 0 { (format!("{b:.1}"), format!("{:.2}", b / c)) } else { (format!("refused {refused}"), "-".to_string()) };
+                println!("| {n} | {shape} | {k} | {} | {} | {a:.1} | {b} | {c:.1} | {d:.1} | {:.2} | {:.2} | {to_rust} |", rust.code.len(), bytes.len(), a / c, a / d);
             }
         }
     }

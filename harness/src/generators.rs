@@ -1,4 +1,4 @@
-//! Generators of chunks. Each makes its i-th chunk from a seed of its own, so that every chunk can be made again.
+//! Generators of chunks. Each makes its i-th chunk from a seed of its own, so that every run makes the same chunks.
 use crate::chunks::{ADD, AND, EQ, LT, NEG, NOT, OR, POW, Rng, Writer};
 
 const ALL: &[u8] = &[0, 1, 2, 3, 4, 5, 6, 7, 8, 9, 10, 11, 12, 13, 14];
