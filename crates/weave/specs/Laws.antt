@@ -42,3 +42,7 @@ written-fits n t {a} {o} {k} e f = go (leb (length t) n) refl (ap (λ y. y .answ
     go : (b : Bool) → leb (length t) n ≡ b → elim b as (λ (_ : Bool). Left) [ true ↦ left (listed.Written (length t)) (pad n t) | false ↦ left listed.Short (zeros n) ] .answer ≡ listed.Written k → k ≤ n
     go true b w = let u : length t ≡ k = cc in omega (arith, u, leb-true (length t) n b)
     go false b w = absurd (let u : _≡_ {A = ℕ} 0 1 = cc in omega arith)
+
+-- an answer that was found to be one of its kinds
+pub listed-told : {x : Left} {a b : Listed} {o : List ℕ} → x ≡ left a o → a ≡ b → x ≡ left b o
+listed-told {o = o} e f = e ∙ ap (λ a. left a o) f

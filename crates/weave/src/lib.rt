@@ -1,6 +1,6 @@
 // The program `weavelist` as functions: the list of an input, in a lent buffer; and reading, listing, writing.
 ghost use mathlib.Core.Path.{_≡_};
-ghost use lib.ListN.{length};
+ghost use lib.ListN.{length, take};
 ghost use Rattle.emission.specs.Parts.{bufs};
 ghost use Rattle.model.specs.Claims.{sizes};
 ghost use Rattle.model.specs.Lowering.{lowered};
@@ -42,18 +42,6 @@ fn fresh_scratch() -> [u32; 16384]
     ensures { λ r. ⌜ 16384 ≡ length r ⌝ }
 {
     [0; 16384]
-}
-
-fn fresh_input() -> [u8; 65537]
-    ensures { λ r. ⌜ 65537 ≡ length r ⌝ }
-{
-    [0; 65537]
-}
-
-fn fresh_page() -> [u8; 589824]
-    ensures { λ r. ⌜ 589824 ≡ length r ⌝ }
-{
-    [0; 589824]
 }
 
 // ---- listing
@@ -100,16 +88,31 @@ pub fn weave(input: &[u8], out: &mut [u8]) -> Listed
     )
 }
 
-// Reads standard input, one byte more than is allowed at most, and writes its list: no list is longer than the page (`fits`, specs/Fits.antt).
-pub fn weavelist() {
-    let mut input = fresh_input();
-    let n = io::read_full(0, &mut input);
-    let mut page = fresh_page();
-    let listed = weave(&input[..n], &mut page);
+// How many bytes were read, and what was listed of them.
+pub struct Woven {
+    pub read: usize,
+    pub listed: Listed,
+}
+
+// Reads what fits the input's buffer, lists it on the page and writes the list. The page and the answer are determined by the bytes read; which these are, and that
+// the list is written out, no contract can say.
+fn list_input(input: &mut [u8], page: &mut [u8]) -> Woven
+    ensures { λ r. ⌜ written (length (now (page .entry))) (weavelistOf (take (r .read) (now (input .exit)))) ≡ left (r .listed) (now (page .exit)) ⌝ }
+{
+    let n = io::read_full(0, input);
+    let listed = weave(&input[..n], page);
     match listed {
         Listed::Written(k) => {
             io::write_all(1, &page[..k]);
         }
         Listed::Short => {}
     }
+    Woven { read: n, listed }
+}
+
+// The program: its input's buffer has one byte more than is allowed, and no list is longer than its page (`fits`, specs/Fits.antt).
+pub fn weavelist(input: &mut [u8; 65537], page: &mut [u8; 589824]) -> Woven
+    ensures { λ r. ⌜ written (length (now (page .entry))) (weavelistOf (take (r .read) (now (input .exit)))) ≡ left (r .listed) (now (page .exit)) ⌝ }
+{
+    list_input(input, page)
 }

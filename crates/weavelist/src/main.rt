@@ -1,4 +1,6 @@
 // Reads a chunk on standard input and prints its weave list (document 01, "The weave list, and cases").
 fn main() {
-    weave::weavelist();
+    let mut input = [0u8; 65537];
+    let mut page = [0u8; 589824];
+    weave::weavelist(&mut input, &mut page);
 }

@@ -1,4 +1,6 @@
 // `weavelist` on an input of 65,537 bytes, which would be accepted but for its length (stdin and stdout: tools/inputs.py).
 fn main() {
-    weave::weavelist();
+    let mut input = [0u8; 65537];
+    let mut page = [0u8; 589824];
+    weave::weavelist(&mut input, &mut page);
 }
