@@ -1,6 +1,6 @@
 -- Kinds and their numbers: a kind is known by its number. Parts of the definitions that the code has functions for. And of a register only what fits its field counts. Assumes nothing.
 use Prim.Native.Nat.{ℕ, zero, suc, _%_}
-use mathlib.Core.Bool.{Bool, true, false}
+use mathlib.Core.Bool.{true, false}
 use mathlib.Core.Path.{_≡_, refl, sym, ap, _∙_}
 use native.Mathlib.Nat.{mod-mod}
 use lib.Dec.{leb}

@@ -1,8 +1,8 @@
 -- Discharging step by step: what a definition comes to once its first step's answer is known, as the code reads it. Assumes nothing.
 use Prim.Native.Nat.{ℕ, _≤_, _<_}
-use mathlib.Core.Bool.{Bool, true, false, not, _||_}
+use mathlib.Core.Bool.{Bool, true, false, not, _||_, true≢false}
 use mathlib.Core.List.{List, []}
-use mathlib.Core.Path.{_≡_, refl, ap, subst, _∙_}
+use mathlib.Core.Path.{_≡_, refl, ap, _∙_}
 use lib.Dec.{leb}
 use lib.ListN.{length, set}
 use borrow.Author.Tests.{eq-eqb, ne-eqb, le-leb, lt-leb}
@@ -76,15 +76,6 @@ pub local-is : (e : ExprContext) (s : State) (m : Buffers) → discharge-kind Lo
 unfolding discharge-kind
 local-is e s m = refl
 
--- the two truth values differ
-unfoldable Is : Bool → Type 0
-Is true = Unit {0}
-Is false = ⊥
-
-clash : true ≡ false → ⊥
-unfolding Is
-clash h = subst Is h tt
-
 -- a value stays as it is
 pub value-is : (k : ExprKind) (e : ExprContext) (s : State) (m : Buffers) → e .kind ≡ k →
     isKind Local e ≡ false → isKind Global e ≡ false → isKind Indexed e ≡ false → isKind Call e ≡ false → isKind VarArg e ≡ false →
@@ -95,14 +86,14 @@ value-is True e s m q a b c d f = refl
 value-is False e s m q a b c d f = refl
 value-is K e s m q a b c d f = refl
 value-is KNum e s m q a b c d f = refl
-value-is Local e s m q a b c d f = absurd (clash (rw q at a))
-value-is Global e s m q a b c d f = absurd (clash (rw q at b))
-value-is Indexed e s m q a b c d f = absurd (clash (rw q at c))
+value-is Local e s m q a b c d f = absurd (true≢false (rw q at a))
+value-is Global e s m q a b c d f = absurd (true≢false (rw q at b))
+value-is Indexed e s m q a b c d f = absurd (true≢false (rw q at c))
 value-is Jmp e s m q a b c d f = refl
 value-is Relocable e s m q a b c d f = refl
 value-is NonReloc e s m q a b c d f = refl
-value-is Call e s m q a b c d f = absurd (clash (rw q at d))
-value-is VarArg e s m q a b c d f = absurd (clash (rw q at f))
+value-is Call e s m q a b c d f = absurd (true≢false (rw q at d))
+value-is VarArg e s m q a b c d f = absurd (true≢false (rw q at f))
 
 -- ---- constants
 
@@ -187,17 +178,17 @@ pub unloaded : (k : ExprKind) (e : ExprContext) (reg : ℕ) (s : State) (m : Buf
     isKind Nil e ≡ false → isKind True e ≡ false → isKind False e ≡ false → isKind K e ≡ false → isKind KNum e ≡ false → isKind Relocable e ≡ false → isKind NonReloc e ≡ false →
     load-kind k e reg s m ≡ done e s m
 unfolding load-kind
-unloaded Nil e reg s m q a b c d f g h = absurd (clash (rw q at a))
-unloaded True e reg s m q a b c d f g h = absurd (clash (rw q at b))
-unloaded False e reg s m q a b c d f g h = absurd (clash (rw q at c))
-unloaded K e reg s m q a b c d f g h = absurd (clash (rw q at d))
-unloaded KNum e reg s m q a b c d f g h = absurd (clash (rw q at f))
+unloaded Nil e reg s m q a b c d f g h = absurd (true≢false (rw q at a))
+unloaded True e reg s m q a b c d f g h = absurd (true≢false (rw q at b))
+unloaded False e reg s m q a b c d f g h = absurd (true≢false (rw q at c))
+unloaded K e reg s m q a b c d f g h = absurd (true≢false (rw q at d))
+unloaded KNum e reg s m q a b c d f g h = absurd (true≢false (rw q at f))
 unloaded Local e reg s m q a b c d f g h = refl
 unloaded Global e reg s m q a b c d f g h = refl
 unloaded Indexed e reg s m q a b c d f g h = refl
 unloaded Jmp e reg s m q a b c d f g h = refl
-unloaded Relocable e reg s m q a b c d f g h = absurd (clash (rw q at g))
-unloaded NonReloc e reg s m q a b c d f g h = absurd (clash (rw q at h))
+unloaded Relocable e reg s m q a b c d f g h = absurd (true≢false (rw q at g))
+unloaded NonReloc e reg s m q a b c d f g h = absurd (true≢false (rw q at h))
 unloaded Call e reg s m q a b c d f g h = refl
 unloaded VarArg e reg s m q a b c d f g h = refl
 
@@ -323,10 +314,6 @@ module _ (e : ExprContext) (reg : ℕ) (s : State) (m : Buffers) where
           ∙ ap (λ (b : Bool). andThen (branch b (settle d reg) skip s k) (give (is NonReloc reg (jumps 0 0 d)))) h
           ∙ ap (λ (y : ExprContext). done y s k) there-is
 
-  pub reg-done : {d : ExprContext} {t : State} {k : Buffers} → discharge2reg e reg s m ≡ done d t k → exp2reg e reg s m ≡ placed d reg t k
-  unfolding exp2reg andThen
-  reg-done h = ap (λ (y : Result ExprContext). andThen y (λ (d : ExprContext). placed d reg)) h
-
   pub reg-refused : {r : Refusal} {k : Buffers} → discharge2reg e reg s m ≡ refused r k → exp2reg e reg s m ≡ refused r k
   unfolding exp2reg andThen
   reg-refused h = ap (λ (y : Result ExprContext). andThen y (λ (d : ExprContext). placed d reg)) h
@@ -381,11 +368,14 @@ module _ (e : ExprContext) (s : State) (m : Buffers) where
     pub any-there : has-jumps e ≡ false → any-of e s m ≡ done e s m
     any-there q = any-is ∙ ap (λ (b : Bool). branch b reused stays s m) q
 
+    pub any-jumps : has-jumps e ≡ true → any-of e s m ≡ reused s m
+    any-jumps q = any-is ∙ ap (λ (b : Bool). branch b reused stays s m) q
+
     pub any-reused : has-jumps e ≡ true → s .active ≤ e .info → any-of e s m ≡ exp2reg e (e .info) s m
-    any-reused q l = any-is ∙ ap (λ (b : Bool). branch b reused stays s m) q ∙ ap (λ (b : Bool). branch b (exp2reg e (e .info)) (exp2nextreg e) s m) (le-leb (s .active) (e .info) l)
+    any-reused q l = any-jumps q ∙ ap (λ (b : Bool). branch b (exp2reg e (e .info)) (exp2nextreg e) s m) (le-leb (s .active) (e .info) l)
 
     pub any-next : has-jumps e ≡ true → e .info < s .active → any-of e s m ≡ exp2nextreg e s m
-    any-next q l = any-is ∙ ap (λ (b : Bool). branch b reused stays s m) q ∙ ap (λ (b : Bool). branch b (exp2reg e (e .info)) (exp2nextreg e) s m) (lt-leb (s .active) (e .info) l)
+    any-next q l = any-jumps q ∙ ap (λ (b : Bool). branch b (exp2reg e (e .info)) (exp2nextreg e) s m) (lt-leb (s .active) (e .info) l)
 
   pub val-jumps : has-jumps e ≡ true → exp2val e s m ≡ exp2anyreg e s m
   unfolding exp2val
@@ -399,9 +389,18 @@ module _ (e : ExprContext) (s : State) (m : Buffers) where
     abbrev fitting : Step ExprContext
     fitting a k = andThen (constant a k) (constant-of e)
 
-    pub small-fits : {x : Result ℕ} {r : Result ExprContext} → leb (s .table .count) maxIndexRk ≡ true → constant s m ≡ x → andThen x (constant-of e) ≡ r → small e constant s m ≡ r
-    unfolding small andThen
-    small-fits l h q = ap (λ (b : Bool). branch b fitting (exp2anyreg e) s m) l ∙ ap (λ (y : Result ℕ). andThen y (constant-of e)) h ∙ q
+    module _ (l : leb (s .table .count) maxIndexRk ≡ true) where
+      fits-is : small e constant s m ≡ andThen (constant s m) (constant-of e)
+      unfolding small andThen
+      fits-is = ap (λ (b : Bool). branch b fitting (exp2anyreg e) s m) l
+
+      pub small-done : {k : ℕ} {t : State} {n : Buffers} → constant s m ≡ done k t n → small e constant s m ≡ done (is K k e) t n
+      unfolding andThen
+      small-done h = fits-is ∙ ap (λ (y : Result ℕ). andThen y (constant-of e)) h
+
+      pub small-refused : {r : Refusal} {n : Buffers} → constant s m ≡ refused r n → small e constant s m ≡ refused r n
+      unfolding andThen
+      small-refused h = fits-is ∙ ap (λ (y : Result ℕ). andThen y (constant-of e)) h
 
     pub small-not : leb (s .table .count) maxIndexRk ≡ false → small e constant s m ≡ exp2anyreg e s m
     unfolding small andThen
@@ -453,11 +452,11 @@ module _ (e : ExprContext) (s : State) (m : Buffers) where
 pub rk-else : (k : ExprKind) (e : ExprContext) (s : State) (m : Buffers) → e .kind ≡ k →
     isKind Nil e ≡ false → isKind True e ≡ false → isKind False e ≡ false → isKind K e ≡ false → isKind KNum e ≡ false → rk-kind k e s m ≡ exp2anyreg e s m
 unfolding rk-kind
-rk-else Nil e s m q a b c d f = absurd (clash (rw q at a))
-rk-else True e s m q a b c d f = absurd (clash (rw q at b))
-rk-else False e s m q a b c d f = absurd (clash (rw q at c))
-rk-else K e s m q a b c d f = absurd (clash (rw q at d))
-rk-else KNum e s m q a b c d f = absurd (clash (rw q at f))
+rk-else Nil e s m q a b c d f = absurd (true≢false (rw q at a))
+rk-else True e s m q a b c d f = absurd (true≢false (rw q at b))
+rk-else False e s m q a b c d f = absurd (true≢false (rw q at c))
+rk-else K e s m q a b c d f = absurd (true≢false (rw q at d))
+rk-else KNum e s m q a b c d f = absurd (true≢false (rw q at f))
 rk-else Local e s m q a b c d f = refl
 rk-else Global e s m q a b c d f = refl
 rk-else Indexed e s m q a b c d f = refl

@@ -1,2 +1,4 @@
+pub mod Bringing
 pub mod Kinds
 pub mod Laws
+pub mod Wants

@@ -1,6 +1,6 @@
 // Discharging: a descriptor becomes a value, a register or an RK operand. The middle part of rilua's codegen.rs, over the lent buffers.
 // A state and a descriptor go in by value and come back in the answer. Nothing is assumed of either.
-ghost use mathlib.Core.Bool.{false};
+ghost use mathlib.Core.Bool.{true, false};
 ghost use mathlib.Core.List.{List, []};
 ghost use mathlib.Core.Path.{_≡_};
 ghost use Prim.Native.Nat.{ℕ, _+_};
@@ -14,7 +14,9 @@ ghost use Rattle.model.specs.Jumps.{word};
 ghost use Rattle.model.specs.Emission.{with-table, add-constant};
 ghost use Rattle.model.specs.Discharge.{discharge-kind, discharge-vars, number-constant, load-kind, discharge2reg as discharge2regOf, discharge2anyreg as discharge2anyregOf, land as landOf, load-both, settle as settleOf, join-jump, exp2reg as exp2regOf, exp2nextreg as exp2nextregOf, exp2anyreg as exp2anyregOf, exp2val as exp2valOf, small as smallOf, near as nearOf, rk-kind, exp2rk as exp2rkOf};
 ghost use Rattle.emission.specs.Parts.{bufs};
-ghost use Rattle.discharge.specs.Kinds.{put, give, over-of, load-yes, load-no, placed, next-of, any-of, constant-of};
+ghost use Rattle.discharge.specs.Kinds.{put, give, over-of, load-yes, load-no, placed};
+ghost use Rattle.discharge.specs.Wants.{only-value, keeps-open, is-value, is-plain, wants-operand, wanted, reg-of, landing-of, there-of, operandIs, restIs, spotIs};
+ghost use Rattle.discharge.specs.declared.Want.the-variants.{Next};
 use constants::Added;
 use constants::Table;
 use constants::Val;
@@ -45,6 +47,7 @@ use model::Stepped;
 use operands::fits_rk;
 use operands::free_expr;
 use operands::is_kind;
+use refusals::Refusal;
 
 // ---- descriptors
 
@@ -163,7 +166,7 @@ fn one_vararg(code: &mut [u32], e: ExprContext) -> ExprContext
 }
 
 // A variable, an indexed value, a call or a vararg becomes a value.
-pub fn discharge_vars(code: &mut [u32], lines: &mut [u32], st: State, e: ExprContext) -> Described
+fn discharge_kind(code: &mut [u32], lines: &mut [u32], st: State, e: ExprContext) -> Described
     ensures { λ r. ⌜ ((ks vs p : List ℕ) → discharge-vars e st (bufs (now (code .entry)) (now (lines .entry)) ks vs p) ≡ describedIs r (bufs (now (code .exit)) (now (lines .exit)) ks vs p)) ⌝ }
 {
     if is_kind(e, ExprKind::Local) {
@@ -351,46 +354,6 @@ fn load_kind(
     load_other(code, lines, st, e, reg)
 }
 
-pub fn discharge2reg(
-    code: &mut [u32],
-    lines: &mut [u32],
-    kinds: &mut [u8],
-    values: &mut [u64],
-    pool: &mut [u8],
-    st: State,
-    e: ExprContext,
-    reg: usize,
-) -> Described
-    ensures { λ r. ⌜ discharge2regOf e reg st (bufs (now (code .entry)) (now (lines .entry)) (now (kinds .entry)) (now (values .entry)) (now (pool .entry))) ≡ describedIs r (bufs (now (code .exit)) (now (lines .exit)) (now (kinds .exit)) (now (values .exit)) (now (pool .exit))) ⌝ }
-{
-    let answer = discharge_vars(code, lines, st, e);
-    match answer {
-        Described::Done(s, d) => load_kind(code, lines, kinds, values, pool, s, d, reg),
-        Described::Refused(k) => Described::Refused(k),
-    }
-}
-
-pub fn discharge2anyreg(
-    code: &mut [u32],
-    lines: &mut [u32],
-    kinds: &mut [u8],
-    values: &mut [u64],
-    pool: &mut [u8],
-    st: State,
-    e: ExprContext,
-) -> Described
-    ensures { λ r. ⌜ discharge2anyregOf e st (bufs (now (code .entry)) (now (lines .entry)) (now (kinds .entry)) (now (values .entry)) (now (pool .entry))) ≡ describedIs r (bufs (now (code .exit)) (now (lines .exit)) (now (kinds .exit)) (now (values .exit)) (now (pool .exit))) ⌝ }
-{
-    if is_kind(e, ExprKind::NonReloc) {
-        return Described::Done(st, e);
-    }
-    let answer = alloc_reg(st);
-    match answer {
-        Given::Done(s, reg) => discharge2reg(code, lines, kinds, values, pool, s, e, reg),
-        Given::Refused(k) => Described::Refused(k),
-    }
-}
-
 // ---- jumps that bring a value
 
 // The jumps of both lists land: those with a value at `last`, those without at `off` or `on`.
@@ -511,6 +474,395 @@ fn place(code: &mut [u32], lines: &mut [u32], st: State, e: ExprContext, reg: us
     Described::Done(st, there)
 }
 
+// ---- what a value is wanted as
+
+// One function brings a value to what is wanted, so that its steps stand once and a call of it copies state and descriptor once.
+pub enum Want {
+    // no variable any more: `discharge_vars`
+    Value,
+    // in this register, its jumps still open: `discharge2reg`
+    Load(usize),
+    // in this register: `exp2reg`
+    Reg(usize),
+    // in the next register: `exp2nextreg`
+    Next,
+    // in any register: `exp2anyreg`
+    Any,
+    // a value without jumps: `exp2val`
+    Val,
+    // a constant up to 255, or in a register: `exp2rk`
+    Rk,
+}
+
+// An operand: the constant at an index, or what goes to a register.
+enum Operand {
+    Constant(State, usize),
+    Other(State),
+    Refused(Refusal),
+}
+
+// Where a value goes: it stays as it is, or goes to a register.
+enum Spot {
+    Stay,
+    At(State, usize),
+    Refused(Refusal),
+}
+
+fn only_value(want: Want) -> bool
+    ensures { λ r. ⌜ only-value want ≡ r ⌝ }
+{
+    match want {
+        Want::Value => true,
+        Want::Load(_) => false,
+        Want::Reg(_) => false,
+        Want::Next => false,
+        Want::Any => false,
+        Want::Val => false,
+        Want::Rk => false,
+    }
+}
+
+// ---- as an operand
+
+// A constant above 255 goes to a register.
+fn near(st: State, k: usize) -> Operand
+    ensures { λ r. ⌜ ((e : ExprContext) (m : Buffers) → nearOf e k st m ≡ operandIs e r m) ⌝ }
+{
+    if fits_rk(k) {
+        return Operand::Constant(st, k);
+    }
+    Operand::Other(st)
+}
+
+// Nil, true or false as a constant, only while the table has at most 255 entries.
+fn small(kinds: &mut [u8], values: &mut [u64], pool: &mut [u8], st: State, v: Val) -> Operand
+    ensures { λ r. ⌜ ((e : ExprContext) (cs ls : List ℕ) → smallOf e (add-constant [] v) st (bufs cs ls (now (kinds .entry)) (now (values .entry)) (now (pool .entry))) ≡ operandIs e r (bufs cs ls (now (kinds .exit)) (now (values .exit)) (now (pool .exit)))) ⌝ }
+{
+    let table = st.table;
+    if fits_rk(table.count) {
+        let answer = own_constant(kinds, values, pool, st, v);
+        return match answer {
+            Given::Done(s, k) => Operand::Constant(s, k),
+            Given::Refused(k) => Operand::Refused(k),
+        };
+    }
+    Operand::Other(st)
+}
+
+// A number as an operand.
+fn rk_number(
+    kinds: &mut [u8],
+    values: &mut [u64],
+    pool: &mut [u8],
+    st: State,
+    e: ExprContext,
+) -> Operand
+    ensures { λ r. ⌜ ((cs ls : List ℕ) → rk-kind KNum e st (bufs cs ls (now (kinds .entry)) (now (values .entry)) (now (pool .entry))) ≡ operandIs e r (bufs cs ls (now (kinds .exit)) (now (values .exit)) (now (pool .exit)))) ⌝ }
+{
+    let answer = number_constant(kinds, values, pool, st, e);
+    match answer {
+        Given::Done(s, n) => near(s, n),
+        Given::Refused(k) => Operand::Refused(k),
+    }
+}
+
+// A value as an operand.
+fn rk_kind(
+    kinds: &mut [u8],
+    values: &mut [u64],
+    pool: &mut [u8],
+    st: State,
+    e: ExprContext,
+) -> Operand
+    ensures { λ r. ⌜ ((cs ls : List ℕ) → rk-kind (e .kind) e st (bufs cs ls (now (kinds .entry)) (now (values .entry)) (now (pool .entry))) ≡ operandIs e r (bufs cs ls (now (kinds .exit)) (now (values .exit)) (now (pool .exit)))) ⌝ }
+{
+    if is_kind(e, ExprKind::Nil) {
+        return small(kinds, values, pool, st, Val::Nil);
+    }
+    if is_kind(e, ExprKind::True) {
+        return small(kinds, values, pool, st, Val::Truth(true));
+    }
+    if is_kind(e, ExprKind::False) {
+        return small(kinds, values, pool, st, Val::Truth(false));
+    }
+    if is_kind(e, ExprKind::K) {
+        return near(st, e.info);
+    }
+    if is_kind(e, ExprKind::KNum) {
+        return rk_number(kinds, values, pool, st, e);
+    }
+    Operand::Other(st)
+}
+
+// Whether a constant will do.
+fn wants_operand(want: Want, e: ExprContext) -> bool
+    ensures { λ r. ⌜ wants-operand want e ≡ r ⌝ }
+{
+    match want {
+        Want::Value => false,
+        Want::Load(_) => false,
+        Want::Reg(_) => false,
+        Want::Next => false,
+        Want::Any => false,
+        Want::Val => false,
+        Want::Rk => !has_jumps(e),
+    }
+}
+
+// The first part of what is wanted of a value: it is a constant, or what goes to a register.
+fn as_operand(
+    kinds: &mut [u8],
+    values: &mut [u64],
+    pool: &mut [u8],
+    st: State,
+    e: ExprContext,
+    want: Want,
+) -> Operand
+    ensures { λ r. ⌜ (is-value e ≡ true → (cs ls : List ℕ) → wanted want e st (bufs cs ls (now (kinds .entry)) (now (values .entry)) (now (pool .entry))) ≡ restIs want e r (bufs cs ls (now (kinds .exit)) (now (values .exit)) (now (pool .exit)))) ⌝ }
+{
+    if wants_operand(want, e) {
+        return rk_kind(kinds, values, pool, st, e);
+    }
+    Operand::Other(st)
+}
+
+// ---- where it goes
+
+// To the next register.
+fn next_spot(st: State, e: ExprContext) -> Spot
+    ensures { λ r. ⌜ (is-value e ≡ true → (m : Buffers) → exp2nextregOf e st m ≡ spotIs Next e st r m) ⌝ }
+{
+    let freed = free_expr(st, e);
+    let answer = alloc_reg(freed);
+    match answer {
+        Given::Done(s, reg) => Spot::At(s, reg),
+        Given::Refused(k) => Spot::Refused(k),
+    }
+}
+
+// To a register, unless it is in one and has no jumps.
+fn any_spot(st: State, e: ExprContext) -> Spot
+    ensures { λ r. ⌜ (is-value e ≡ true → (m : Buffers) → exp2anyregOf e st m ≡ spotIs Next e st r m) ⌝ }
+{
+    if is_kind(e, ExprKind::NonReloc) {
+        if has_jumps(e) {
+            if st.active <= e.info {
+                return Spot::At(st, e.info);
+            }
+            return next_spot(st, e);
+        }
+        return Spot::Stay;
+    }
+    next_spot(st, e)
+}
+
+// Whether a value is what is wanted.
+fn plain(e: ExprContext, want: Want) -> bool
+    ensures { λ r. ⌜ is-plain want e ≡ r ⌝ }
+{
+    match want {
+        Want::Value => true,
+        Want::Load(_) => false,
+        Want::Reg(_) => false,
+        Want::Next => false,
+        Want::Any => false,
+        Want::Val => !has_jumps(e),
+        Want::Rk => false,
+    }
+}
+
+fn spot_of(st: State, e: ExprContext, want: Want) -> Spot
+    ensures { λ r. ⌜ (is-value e ≡ true → (m : Buffers) → reg-of want e st m ≡ spotIs want e st r m) ⌝ }
+{
+    if plain(e, want) {
+        return Spot::Stay;
+    }
+    match want {
+        Want::Load(reg) => Spot::At(st, reg),
+        Want::Reg(reg) => Spot::At(st, reg),
+        Want::Next => next_spot(st, e),
+        _ => any_spot(st, e),
+    }
+}
+
+// ---- there
+
+fn keeps_open(want: Want) -> bool
+    ensures { λ r. ⌜ keeps-open want ≡ r ⌝ }
+{
+    match want {
+        Want::Value => false,
+        Want::Load(_) => true,
+        Want::Reg(_) => false,
+        Want::Next => false,
+        Want::Any => false,
+        Want::Val => false,
+        Want::Rk => false,
+    }
+}
+
+// The jumps land, unless they are to stay open.
+fn landing(
+    code: &mut [u32],
+    lines: &mut [u32],
+    st: State,
+    e: ExprContext,
+    reg: usize,
+    want: Want,
+) -> Described
+    ensures { λ r. ⌜ ((ks vs p : List ℕ) → landing-of want reg e st (bufs (now (code .entry)) (now (lines .entry)) ks vs p) ≡ describedIs r (bufs (now (code .exit)) (now (lines .exit)) ks vs p)) ⌝ }
+{
+    if keeps_open(want) {
+        return Described::Done(st, e);
+    }
+    place(code, lines, st, e, reg)
+}
+
+// A value goes to the register where it is wanted.
+fn bring_there(
+    code: &mut [u32],
+    lines: &mut [u32],
+    kinds: &mut [u8],
+    values: &mut [u64],
+    pool: &mut [u8],
+    st: State,
+    e: ExprContext,
+    reg: usize,
+    want: Want,
+) -> Described
+    ensures { λ r. ⌜ there-of want e reg st (bufs (now (code .entry)) (now (lines .entry)) (now (kinds .entry)) (now (values .entry)) (now (pool .entry))) ≡ describedIs r (bufs (now (code .exit)) (now (lines .exit)) (now (kinds .exit)) (now (values .exit)) (now (pool .exit))) ⌝ }
+{
+    let answer = load_kind(code, lines, kinds, values, pool, st, e, reg);
+    match answer {
+        Described::Done(s, d) => landing(code, lines, s, d, reg, want),
+        Described::Refused(k) => Described::Refused(k),
+    }
+}
+
+// A value stays, or goes to a register.
+fn bring_reg(
+    code: &mut [u32],
+    lines: &mut [u32],
+    kinds: &mut [u8],
+    values: &mut [u64],
+    pool: &mut [u8],
+    st: State,
+    e: ExprContext,
+    want: Want,
+) -> Described
+    ensures { λ r. ⌜ (is-value e ≡ true → reg-of want e st (bufs (now (code .entry)) (now (lines .entry)) (now (kinds .entry)) (now (values .entry)) (now (pool .entry))) ≡ describedIs r (bufs (now (code .exit)) (now (lines .exit)) (now (kinds .exit)) (now (values .exit)) (now (pool .exit)))) ⌝ }
+{
+    let to = spot_of(st, e, want);
+    match to {
+        Spot::Stay => Described::Done(st, e),
+        Spot::At(s, reg) => bring_there(code, lines, kinds, values, pool, s, e, reg, want),
+        Spot::Refused(k) => Described::Refused(k),
+    }
+}
+
+// A value becomes what is wanted.
+fn bring_value(
+    code: &mut [u32],
+    lines: &mut [u32],
+    kinds: &mut [u8],
+    values: &mut [u64],
+    pool: &mut [u8],
+    st: State,
+    e: ExprContext,
+    want: Want,
+) -> Described
+    ensures { λ r. ⌜ (is-value e ≡ true → wanted want e st (bufs (now (code .entry)) (now (lines .entry)) (now (kinds .entry)) (now (values .entry)) (now (pool .entry))) ≡ describedIs r (bufs (now (code .exit)) (now (lines .exit)) (now (kinds .exit)) (now (values .exit)) (now (pool .exit)))) ⌝ }
+{
+    let first = as_operand(kinds, values, pool, st, e, want);
+    match first {
+        Operand::Constant(s, k) => Described::Done(s, with_kind(e, ExprKind::K, k)),
+        Operand::Other(s) => bring_reg(code, lines, kinds, values, pool, s, e, want),
+        Operand::Refused(k) => Described::Refused(k),
+    }
+}
+
+// A descriptor becomes what is wanted. No constant is needed where only a value is wanted.
+pub fn bring(
+    code: &mut [u32],
+    lines: &mut [u32],
+    kinds: &mut [u8],
+    values: &mut [u64],
+    pool: &mut [u8],
+    st: State,
+    e: ExprContext,
+    want: Want,
+) -> Described
+    ensures { λ r. ⌜ (wanted want e st (bufs (now (code .entry)) (now (lines .entry)) (now (kinds .entry)) (now (values .entry)) (now (pool .entry))) ≡ describedIs r (bufs (now (code .exit)) (now (lines .exit)) (now (kinds .exit)) (now (values .exit)) (now (pool .exit)))) × (only-value want ≡ true → (ks vs p : List ℕ) → discharge-vars e st (bufs (now (code .entry)) (now (lines .entry)) ks vs p) ≡ describedIs r (bufs (now (code .exit)) (now (lines .exit)) ks vs p)) ⌝ }
+{
+    let answer = discharge_kind(code, lines, st, e);
+    match answer {
+        Described::Done(s, d) => {
+            if only_value(want) {
+                return Described::Done(s, d);
+            }
+            bring_value(code, lines, kinds, values, pool, s, d, want)
+        }
+        Described::Refused(k) => Described::Refused(k),
+    }
+}
+
+// ---- by the Rust's names
+
+// A variable, an indexed value, a call or a vararg becomes a value.
+pub fn discharge_vars(code: &mut [u32], lines: &mut [u32], st: State, e: ExprContext) -> Described
+    ensures { λ r. ⌜ ((ks vs p : List ℕ) → discharge-vars e st (bufs (now (code .entry)) (now (lines .entry)) ks vs p) ≡ describedIs r (bufs (now (code .exit)) (now (lines .exit)) ks vs p)) ⌝ }
+{
+    let mut kinds = [0u8; 1];
+    let mut values = [0u64; 1];
+    let mut pool = [0u8; 1];
+    bring(
+        code,
+        lines,
+        &mut kinds,
+        &mut values,
+        &mut pool,
+        st,
+        e,
+        Want::Value,
+    )
+}
+
+pub fn discharge2reg(
+    code: &mut [u32],
+    lines: &mut [u32],
+    kinds: &mut [u8],
+    values: &mut [u64],
+    pool: &mut [u8],
+    st: State,
+    e: ExprContext,
+    reg: usize,
+) -> Described
+    ensures { λ r. ⌜ discharge2regOf e reg st (bufs (now (code .entry)) (now (lines .entry)) (now (kinds .entry)) (now (values .entry)) (now (pool .entry))) ≡ describedIs r (bufs (now (code .exit)) (now (lines .exit)) (now (kinds .exit)) (now (values .exit)) (now (pool .exit))) ⌝ }
+{
+    bring(code, lines, kinds, values, pool, st, e, Want::Load(reg))
+}
+
+pub fn discharge2anyreg(
+    code: &mut [u32],
+    lines: &mut [u32],
+    kinds: &mut [u8],
+    values: &mut [u64],
+    pool: &mut [u8],
+    st: State,
+    e: ExprContext,
+) -> Described
+    ensures { λ r. ⌜ discharge2anyregOf e st (bufs (now (code .entry)) (now (lines .entry)) (now (kinds .entry)) (now (values .entry)) (now (pool .entry))) ≡ describedIs r (bufs (now (code .exit)) (now (lines .exit)) (now (kinds .exit)) (now (values .exit)) (now (pool .exit))) ⌝ }
+{
+    if is_kind(e, ExprKind::NonReloc) {
+        return Described::Done(st, e);
+    }
+    let answer = alloc_reg(st);
+    match answer {
+        Given::Done(s, reg) => discharge2reg(code, lines, kinds, values, pool, s, e, reg),
+        Given::Refused(k) => Described::Refused(k),
+    }
+}
+
 pub fn exp2reg(
     code: &mut [u32],
     lines: &mut [u32],
@@ -523,33 +875,7 @@ pub fn exp2reg(
 ) -> Described
     ensures { λ r. ⌜ exp2regOf e reg st (bufs (now (code .entry)) (now (lines .entry)) (now (kinds .entry)) (now (values .entry)) (now (pool .entry))) ≡ describedIs r (bufs (now (code .exit)) (now (lines .exit)) (now (kinds .exit)) (now (values .exit)) (now (pool .exit))) ⌝ }
 {
-    let answer = discharge2reg(code, lines, kinds, values, pool, st, e, reg);
-    match answer {
-        Described::Done(s, d) => place(code, lines, s, d, reg),
-        Described::Refused(k) => Described::Refused(k),
-    }
-}
-
-// ---- to the next register, to any, and as an operand
-
-// A value goes to the next register.
-fn next_reg(
-    code: &mut [u32],
-    lines: &mut [u32],
-    kinds: &mut [u8],
-    values: &mut [u64],
-    pool: &mut [u8],
-    st: State,
-    e: ExprContext,
-) -> Described
-    ensures { λ r. ⌜ next-of e st (bufs (now (code .entry)) (now (lines .entry)) (now (kinds .entry)) (now (values .entry)) (now (pool .entry))) ≡ describedIs r (bufs (now (code .exit)) (now (lines .exit)) (now (kinds .exit)) (now (values .exit)) (now (pool .exit))) ⌝ }
-{
-    let freed = free_expr(st, e);
-    let answer = alloc_reg(freed);
-    match answer {
-        Given::Done(s, reg) => exp2reg(code, lines, kinds, values, pool, s, e, reg),
-        Given::Refused(k) => Described::Refused(k),
-    }
+    bring(code, lines, kinds, values, pool, st, e, Want::Reg(reg))
 }
 
 pub fn exp2nextreg(
@@ -563,35 +889,7 @@ pub fn exp2nextreg(
 ) -> Described
     ensures { λ r. ⌜ exp2nextregOf e st (bufs (now (code .entry)) (now (lines .entry)) (now (kinds .entry)) (now (values .entry)) (now (pool .entry))) ≡ describedIs r (bufs (now (code .exit)) (now (lines .exit)) (now (kinds .exit)) (now (values .exit)) (now (pool .exit))) ⌝ }
 {
-    let answer = discharge_vars(code, lines, st, e);
-    match answer {
-        Described::Done(s, d) => next_reg(code, lines, kinds, values, pool, s, d),
-        Described::Refused(k) => Described::Refused(k),
-    }
-}
-
-// A value goes to a register, unless it is in one and has no jumps.
-fn any_reg(
-    code: &mut [u32],
-    lines: &mut [u32],
-    kinds: &mut [u8],
-    values: &mut [u64],
-    pool: &mut [u8],
-    st: State,
-    e: ExprContext,
-) -> Described
-    ensures { λ r. ⌜ any-of e st (bufs (now (code .entry)) (now (lines .entry)) (now (kinds .entry)) (now (values .entry)) (now (pool .entry))) ≡ describedIs r (bufs (now (code .exit)) (now (lines .exit)) (now (kinds .exit)) (now (values .exit)) (now (pool .exit))) ⌝ }
-{
-    if is_kind(e, ExprKind::NonReloc) {
-        if has_jumps(e) {
-            if st.active <= e.info {
-                return exp2reg(code, lines, kinds, values, pool, st, e, e.info);
-            }
-            return exp2nextreg(code, lines, kinds, values, pool, st, e);
-        }
-        return Described::Done(st, e);
-    }
-    exp2nextreg(code, lines, kinds, values, pool, st, e)
+    bring(code, lines, kinds, values, pool, st, e, Want::Next)
 }
 
 // The register is then the descriptor's info.
@@ -606,11 +904,7 @@ pub fn exp2anyreg(
 ) -> Described
     ensures { λ r. ⌜ exp2anyregOf e st (bufs (now (code .entry)) (now (lines .entry)) (now (kinds .entry)) (now (values .entry)) (now (pool .entry))) ≡ describedIs r (bufs (now (code .exit)) (now (lines .exit)) (now (kinds .exit)) (now (values .exit)) (now (pool .exit))) ⌝ }
 {
-    let answer = discharge_vars(code, lines, st, e);
-    match answer {
-        Described::Done(s, d) => any_reg(code, lines, kinds, values, pool, s, d),
-        Described::Refused(k) => Described::Refused(k),
-    }
+    bring(code, lines, kinds, values, pool, st, e, Want::Any)
 }
 
 pub fn exp2val(
@@ -624,109 +918,7 @@ pub fn exp2val(
 ) -> Described
     ensures { λ r. ⌜ exp2valOf e st (bufs (now (code .entry)) (now (lines .entry)) (now (kinds .entry)) (now (values .entry)) (now (pool .entry))) ≡ describedIs r (bufs (now (code .exit)) (now (lines .exit)) (now (kinds .exit)) (now (values .exit)) (now (pool .exit))) ⌝ }
 {
-    if has_jumps(e) {
-        return exp2anyreg(code, lines, kinds, values, pool, st, e);
-    }
-    discharge_vars(code, lines, st, e)
-}
-
-// The descriptor as the constant that was given.
-fn as_constant(answer: Given, e: ExprContext) -> Described
-    ensures { λ r. ⌜ ((m : Buffers) → andThen (givenIs answer m) (constant-of e) ≡ describedIs r m) ⌝ }
-{
-    match answer {
-        Given::Done(s, k) => Described::Done(s, with_kind(e, ExprKind::K, k)),
-        Given::Refused(k) => Described::Refused(k),
-    }
-}
-
-// Nil, true or false as a constant, only while the table has at most 255 entries.
-fn small(
-    code: &mut [u32],
-    lines: &mut [u32],
-    kinds: &mut [u8],
-    values: &mut [u64],
-    pool: &mut [u8],
-    st: State,
-    e: ExprContext,
-    v: Val,
-) -> Described
-    ensures { λ r. ⌜ smallOf e (add-constant [] v) st (bufs (now (code .entry)) (now (lines .entry)) (now (kinds .entry)) (now (values .entry)) (now (pool .entry))) ≡ describedIs r (bufs (now (code .exit)) (now (lines .exit)) (now (kinds .exit)) (now (values .exit)) (now (pool .exit))) ⌝ }
-{
-    let table = st.table;
-    if fits_rk(table.count) {
-        let answer = own_constant(kinds, values, pool, st, v);
-        return as_constant(answer, e);
-    }
-    exp2anyreg(code, lines, kinds, values, pool, st, e)
-}
-
-// A constant above 255 goes to a register.
-fn near(
-    code: &mut [u32],
-    lines: &mut [u32],
-    kinds: &mut [u8],
-    values: &mut [u64],
-    pool: &mut [u8],
-    st: State,
-    e: ExprContext,
-    k: usize,
-) -> Described
-    ensures { λ r. ⌜ nearOf e k st (bufs (now (code .entry)) (now (lines .entry)) (now (kinds .entry)) (now (values .entry)) (now (pool .entry))) ≡ describedIs r (bufs (now (code .exit)) (now (lines .exit)) (now (kinds .exit)) (now (values .exit)) (now (pool .exit))) ⌝ }
-{
-    if fits_rk(k) {
-        return Described::Done(st, with_kind(e, ExprKind::K, k));
-    }
-    exp2anyreg(code, lines, kinds, values, pool, st, e)
-}
-
-// A number as an operand.
-fn rk_number(
-    code: &mut [u32],
-    lines: &mut [u32],
-    kinds: &mut [u8],
-    values: &mut [u64],
-    pool: &mut [u8],
-    st: State,
-    e: ExprContext,
-) -> Described
-    ensures { λ r. ⌜ rk-kind KNum e st (bufs (now (code .entry)) (now (lines .entry)) (now (kinds .entry)) (now (values .entry)) (now (pool .entry))) ≡ describedIs r (bufs (now (code .exit)) (now (lines .exit)) (now (kinds .exit)) (now (values .exit)) (now (pool .exit))) ⌝ }
-{
-    let answer = number_constant(kinds, values, pool, st, e);
-    match answer {
-        Given::Done(s, n) => near(code, lines, kinds, values, pool, s, e, n),
-        Given::Refused(k) => Described::Refused(k),
-    }
-}
-
-// A value as an operand.
-fn rk_kind(
-    code: &mut [u32],
-    lines: &mut [u32],
-    kinds: &mut [u8],
-    values: &mut [u64],
-    pool: &mut [u8],
-    st: State,
-    e: ExprContext,
-) -> Described
-    ensures { λ r. ⌜ rk-kind (e .kind) e st (bufs (now (code .entry)) (now (lines .entry)) (now (kinds .entry)) (now (values .entry)) (now (pool .entry))) ≡ describedIs r (bufs (now (code .exit)) (now (lines .exit)) (now (kinds .exit)) (now (values .exit)) (now (pool .exit))) ⌝ }
-{
-    if is_kind(e, ExprKind::Nil) {
-        return small(code, lines, kinds, values, pool, st, e, Val::Nil);
-    }
-    if is_kind(e, ExprKind::True) {
-        return small(code, lines, kinds, values, pool, st, e, Val::Truth(true));
-    }
-    if is_kind(e, ExprKind::False) {
-        return small(code, lines, kinds, values, pool, st, e, Val::Truth(false));
-    }
-    if is_kind(e, ExprKind::K) {
-        return near(code, lines, kinds, values, pool, st, e, e.info);
-    }
-    if is_kind(e, ExprKind::KNum) {
-        return rk_number(code, lines, kinds, values, pool, st, e);
-    }
-    exp2anyreg(code, lines, kinds, values, pool, st, e)
+    bring(code, lines, kinds, values, pool, st, e, Want::Val)
 }
 
 // A constant up to 255, or a register.
@@ -741,9 +933,5 @@ pub fn exp2rk(
 ) -> Described
     ensures { λ r. ⌜ exp2rkOf e st (bufs (now (code .entry)) (now (lines .entry)) (now (kinds .entry)) (now (values .entry)) (now (pool .entry))) ≡ describedIs r (bufs (now (code .exit)) (now (lines .exit)) (now (kinds .exit)) (now (values .exit)) (now (pool .exit))) ⌝ }
 {
-    let answer = exp2val(code, lines, kinds, values, pool, st, e);
-    match answer {
-        Described::Done(s, d) => rk_kind(code, lines, kinds, values, pool, s, d),
-        Described::Refused(k) => Described::Refused(k),
-    }
+    bring(code, lines, kinds, values, pool, st, e, Want::Rk)
 }

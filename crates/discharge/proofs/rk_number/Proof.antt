@@ -26,32 +26,24 @@ same-length-2 c = search needs
 same-length-3 : tie.Need-same-length-3
 same-length-3 c = search needs
 
+returns : tie.Need-returns
+returns c =
+    let p10 = c .before .before .before .before .before .before .before .before .before .before in
+    λ cs ls. rk-number-done _ _ _ (given-told ((p10 .number-constant .result)) _ ((p10 .number-constant .ensures) cs ls) ((c .before .before .answer .given .1))) ∙ (c .near .ensures) _ _
+
 same-length-4 : tie.Need-same-length-4
 same-length-4 c = search needs
 
 same-length-5 : tie.Need-same-length-5
 same-length-5 c = search needs
 
-returns : tie.Need-returns
-returns c =
-    let p10 = c .before .before .before .before .before .before .before .before .before .before in
-    let p17 = p10 .before .before .before .before .before .before .before in
-    let p25 = p17 .before .before .before .before .before .before .before .before in
-    rk-number-done _ _ _ (given-told (p25 .number-constant .result) _ ((p25 .number-constant .ensures) _ _) (p17 .answer .given .1)) ∙ (p10 .near .ensures)
-
 same-length-6 : tie.Need-same-length-6
 same-length-6 c = search needs
-
-same-length-7 : tie.Need-same-length-7
-same-length-7 c = search needs
-
-same-length-8 : tie.Need-same-length-8
-same-length-8 c = search needs
 
 returns-2 : tie.Need-returns-2
 returns-2 c =
     let p9 = c .before .before .before .before .before .before .before .before .before in
-    rk-number-refused _ _ _ (given-told (p9 .number-constant .result) _ ((p9 .number-constant .ensures) _ _) (c .before .answer2 .given .1))
+    λ cs ls. rk-number-refused _ _ _ (given-told ((p9 .number-constant .result)) _ ((p9 .number-constant .ensures) cs ls) ((c .before .answer2 .given .1)))
 
 pub rk-number-spec : {M : Type 1} → statement M
 rk-number-spec =
@@ -64,10 +56,8 @@ rk-number-spec =
     same-length
     same-length-2
     same-length-3
+    returns
     same-length-4
     same-length-5
-    returns
     same-length-6
-    same-length-7
-    same-length-8
     returns-2)

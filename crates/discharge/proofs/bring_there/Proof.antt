@@ -1,18 +1,19 @@
--- `discharge::exp2reg` meets its contract, by those of `discharge2reg` and `place`. Assumes nothing.
+-- `discharge::bring_there` meets its contract, by those of `load_kind` and `landing`. Assumes nothing.
 use mathlib.Core.Path.{_∙_}
-use Rattle.discharge.specs.Laws.{described-told, reg-done, reg-refused}
+use Rattle.discharge.specs.Laws.{described-told}
+use Rattle.discharge.specs.Bringing.{there-done, there-refused}
 use borrow.Author.Needs.{needs}
-use Rattle.discharge.proofs.exp2reg.Statement.{statement}
-use Rattle.discharge.proofs.exp2reg.Tie as tie
+use Rattle.discharge.proofs.bring_there.Statement.{statement}
+use Rattle.discharge.proofs.bring_there.Tie as tie
 
-discharge2reg-requires : tie.Need-discharge2reg-requires
-discharge2reg-requires c κs = search needs
+load-kind-requires : tie.Need-load-kind-requires
+load-kind-requires c κs = search needs
 
 enum-known-answer : tie.Need-enum-known-answer
 enum-known-answer c = search needs
 
-place-requires : tie.Need-place-requires
-place-requires c κs = search needs
+landing-requires : tie.Need-landing-requires
+landing-requires c κs = search needs
 
 enum-known-answer-2 : tie.Need-enum-known-answer-2
 enum-known-answer-2 c = search needs
@@ -37,7 +38,8 @@ returns c =
     let p4 = c .before .before .before .before in
     let p8 = p4 .before .before .before .before in
     let p20 = p8 .before .before .before .before .before .before .before .before .before .before .before .before in
-    reg-done _ _ _ _ (described-told (p20 .discharge2reg .result) _ (p20 .discharge2reg .ensures) (p8 .answer .given .1)) ∙ (p4 .place .ensures) _ _ _
+    let p31 = p20 .before .before .before .before .before .before .before .before .before .before .before in
+    there-done ((p31 .args .want)) ((p31 .args .e)) ((p31 .args .reg)) ((p31 .args .st)) _ (described-told ((p20 .load-kind .result)) _ ((p20 .load-kind .ensures)) ((p8 .answer .given .1))) ∙ (p4 .landing .ensures) _ _ _
 
 same-length-6 : tie.Need-same-length-6
 same-length-6 c = search needs
@@ -57,15 +59,16 @@ same-length-10 c = search needs
 returns-2 : tie.Need-returns-2
 returns-2 c =
     let p13 = c .before .before .before .before .before .before .before .before .before .before .before .before .before in
-    reg-refused _ _ _ _ (described-told (p13 .discharge2reg .result) _ (p13 .discharge2reg .ensures) (c .before .answer2 .given .1))
+    let p24 = p13 .before .before .before .before .before .before .before .before .before .before .before in
+    there-refused ((p24 .args .want)) ((p24 .args .e)) ((p24 .args .reg)) ((p24 .args .st)) _ (described-told ((p13 .load-kind .result)) _ ((p13 .load-kind .ensures)) ((c .before .answer2 .given .1)))
 
-pub exp2reg-spec : {M : Type 1} → statement M
-exp2reg-spec =
+pub bring-there-spec : {M : Type 1} → statement M
+bring-there-spec =
     tie.close
     (tie.spec
-    discharge2reg-requires
+    load-kind-requires
     enum-known-answer
-    place-requires
+    landing-requires
     enum-known-answer-2
     same-length
     same-length-2

@@ -1,0 +1,123 @@
+-- What a descriptor is wanted as, and the parts of `bring`. Assumes nothing.
+use Prim.Native.Nat.{ℕ}
+use mathlib.Core.Bool.{Bool, true, false, not}
+use Rattle.model.specs.declared.ExprKind.{ExprKind}
+use Rattle.model.specs.declared.ExprKind.the-variants as kind
+use Rattle.model.specs.declared.ExprContext.{ExprContext}
+use Rattle.model.specs.declared.State.{State}
+use Rattle.model.specs.Steps.{Buffers, Result, done, refused, Step, andThen, return}
+use Rattle.model.specs.Descriptor.{is, has-jumps}
+use Rattle.model.specs.Discharge.{discharge-vars, load-kind, discharge2reg, exp2reg, exp2nextreg, exp2anyreg, exp2val, exp2rk}
+use Rattle.discharge.specs.declared.Want.{Want}
+use Rattle.discharge.specs.declared.Want.the-variants.{Value, Load, Reg, Next, Any, Val, Rk}
+use Rattle.discharge.specs.declared.Operand.{Operand}
+use Rattle.discharge.specs.declared.Operand.the-variants as operand
+use Rattle.discharge.specs.declared.Spot.{Spot}
+use Rattle.discharge.specs.declared.Spot.the-variants as spot
+use Rattle.discharge.specs.Kinds.{placed}
+
+-- the definition that each is
+abbrev pub wanted : Want → ExprContext → Step ExprContext
+wanted Value e = discharge-vars e
+wanted (Load reg) e = discharge2reg e reg
+wanted (Reg reg) e = exp2reg e reg
+wanted Next e = exp2nextreg e
+wanted Any e = exp2anyreg e
+wanted Val e = exp2val e
+wanted Rk e = exp2rk e
+
+abbrev pub only-value : Want → Bool
+only-value Value = true
+only-value (Load reg) = false
+only-value (Reg reg) = false
+only-value Next = false
+only-value Any = false
+only-value Val = false
+only-value Rk = false
+
+abbrev pub keeps-open : Want → Bool
+keeps-open Value = false
+keeps-open (Load reg) = true
+keeps-open (Reg reg) = false
+keeps-open Next = false
+keeps-open Any = false
+keeps-open Val = false
+keeps-open Rk = false
+
+-- a kind that `discharge-vars` leaves as it is
+abbrev pub value-kind : ExprKind → Bool
+value-kind kind.Nil = true
+value-kind kind.True = true
+value-kind kind.False = true
+value-kind kind.K = true
+value-kind kind.KNum = true
+value-kind kind.Local = false
+value-kind kind.Global = false
+value-kind kind.Indexed = false
+value-kind kind.Jmp = true
+value-kind kind.Relocable = true
+value-kind kind.NonReloc = true
+value-kind kind.Call = false
+value-kind kind.VarArg = false
+
+abbrev pub is-value : ExprContext → Bool
+is-value e = value-kind (e .kind)
+
+-- whether a constant will do
+abbrev pub wants-operand : Want → ExprContext → Bool
+wants-operand Value e = false
+wants-operand (Load reg) e = false
+wants-operand (Reg reg) e = false
+wants-operand Next e = false
+wants-operand Any e = false
+wants-operand Val e = false
+wants-operand Rk e = not (has-jumps e)
+
+-- whether a value is what is wanted
+abbrev pub is-plain : Want → ExprContext → Bool
+is-plain Value e = true
+is-plain (Load reg) e = false
+is-plain (Reg reg) e = false
+is-plain Next e = false
+is-plain Any e = false
+is-plain Val e = not (has-jumps e)
+is-plain Rk e = false
+
+-- what is left for a value that doesn't become a constant
+abbrev pub reg-of : Want → ExprContext → Step ExprContext
+reg-of Value e = discharge-vars e
+reg-of (Load reg) e = discharge2reg e reg
+reg-of (Reg reg) e = exp2reg e reg
+reg-of Next e = exp2nextreg e
+reg-of Any e = exp2anyreg e
+reg-of Val e = exp2val e
+reg-of Rk e = exp2anyreg e
+
+-- in the register: the jumps land, unless they are to stay open
+abbrev pub landing-of : Want → ℕ → ExprContext → Step ExprContext
+landing-of Value reg e = placed e reg
+landing-of (Load to) reg e = return e
+landing-of (Reg to) reg e = placed e reg
+landing-of Next reg e = placed e reg
+landing-of Any reg e = placed e reg
+landing-of Val reg e = placed e reg
+landing-of Rk reg e = placed e reg
+
+abbrev pub there-of : Want → ExprContext → ℕ → Step ExprContext
+there-of w e reg s m = andThen (load-kind (e .kind) e reg s m) (landing-of w reg)
+
+-- what the answers of the parts stand for
+abbrev pub operandIs : ExprContext → Operand → Buffers → Result ExprContext
+operandIs e (operand.Constant s k) m = done (is kind.K k e) s m
+operandIs e (operand.Other s) m = exp2anyreg e s m
+operandIs e (operand.Refused k) m = refused k m
+
+abbrev pub restIs : Want → ExprContext → Operand → Buffers → Result ExprContext
+restIs w e (operand.Constant s k) m = done (is kind.K k e) s m
+restIs w e (operand.Other s) m = reg-of w e s m
+restIs w e (operand.Refused k) m = refused k m
+
+abbrev pub spotIs : Want → ExprContext → State → Spot → Buffers → Result ExprContext
+spotIs w e st spot.Stay m = done e st m
+spotIs w e st (spot.At s reg) m = there-of w e reg s m
+spotIs w e st (spot.Refused k) m = refused k m
