@@ -12,10 +12,6 @@ use Rattle.refusals.specs.declared.Refusal.{Refusal}
 use Rattle.instructions.specs.Limits.{noReg}
 use Rattle.instructions.specs.Word.{setAOf, setBOf, setCOf, abcOf}
 use Rattle.instructions.specs.declared.OpCode.the-variants as op
-use Rattle.constants.specs.Table.{added, out}
-use Rattle.constants.specs.declared.Table.{Table}
-use Rattle.constants.specs.declared.Val.{Val}
-use Rattle.constants.specs.declared.Added.the-variants as added-as
 use Rattle.cursor.specs.Fields.{bytesOf}
 use Rattle.cursor.specs.declared.Text.{Text}
 use Rattle.nodes.specs.declared.ast.Leaf.the-variants as leaf
@@ -30,7 +26,7 @@ use Rattle.model.specs.declared.Stepped.{Stepped}
 use Rattle.model.specs.Steps.{Buffers, Step, Result, done, refused, andThen, _>>=_, _>>_, get, steppedIs}
 use Rattle.model.specs.Descriptor.{newOf, is, isKind}
 use Rattle.model.specs.Jumps.{word}
-use Rattle.model.specs.Emission.{with-free, with-table, emit-at, emit-abc, reserve-regs, add-constant}
+use Rattle.model.specs.Emission.{with-free, emit-at, emit-abc, reserve-regs}
 use Rattle.model.specs.Discharge.{change-word, free-expr, exp2nextreg, exp2anyreg, exp2rk, rk}
 use Rattle.model.specs.Expressions.{search-local, set-multret, above, emit-call, closed-call, is-open, last-argument, set-indexed, code-self, string-constant, resolved, resolve-var, leaf-expr, callee}
 use Rattle.emission.specs.Parts.{bufs}
@@ -197,17 +193,6 @@ module _ (e key : ExprContext) (s : State) (m : Buffers) where
   code-self-refused h = then-refused _ h
 
 -- ---- names and leaves
-
-module _ (chunk : List ℕ) (v : Val) (s : State) (cs ls ks vs p : List ℕ) where
-  pub constant-at : {i : ℕ} {t : Table} {kb vb pb : List ℕ} → added chunk (s .table) v ks vs p ≡ out (added-as.At i t) kb vb pb →
-      add-constant chunk v s (bufs cs ls ks vs p) ≡ done i (with-table t s) (bufs cs ls kb vb pb)
-  unfolding add-constant
-  constant-at h = simp (add-constant, h)
-
-  pub constant-refused : {k : Refusal} {kb vb pb : List ℕ} → added chunk (s .table) v ks vs p ≡ out (added-as.Refused k) kb vb pb →
-      add-constant chunk v s (bufs cs ls ks vs p) ≡ refused k (bufs cs ls kb vb pb)
-  unfolding add-constant
-  constant-refused h = simp (add-constant, h)
 
 module _ (chunk : List ℕ) (h : Header) (s : State) (m : Buffers) where
   module _ (t : Text) where

@@ -9,16 +9,15 @@ ghost use Rattle.model.specs.Expressions.{set-multret, above as aboveOf, emit-c
 ghost use Rattle.emission.specs.Parts.{bufs};
 ghost use Rattle.calls.specs.Parts.{fresh-of, self-of, operand-of, key-of};
 use chunk::header::Header;
-use constants::Added;
 use constants::Found;
 use constants::Val;
-use constants::add_constant;
 use cursor::Text;
 use discharge::exp2anyreg;
 use discharge::exp2nextreg;
 use discharge::exp2rk;
 use discharge::set_c_at;
 use discharge::with_kind;
+use emission::add_constant;
 use emission::emit_abc;
 use emission::emit_at;
 use emission::reserve_regs;
@@ -290,24 +289,7 @@ pub fn string_constant(
         start: t.start,
         len: t.len,
     };
-    let answer = add_constant(kinds, values, pool, chunk, st.table, v);
-    match answer {
-        Added::At(i, table) => Given::Done(
-            State {
-                at: st.at,
-                line: st.line,
-                pc: st.pc,
-                table,
-                active: st.active,
-                free: st.free,
-                frame: st.frame,
-                jpc: st.jpc,
-                label: st.label,
-            },
-            i,
-        ),
-        Added::Refused(k) => Given::Refused(k),
-    }
+    add_constant(chunk, kinds, values, pool, st, v)
 }
 
 // A new descriptor of this kind, whose info is the number that was given.

@@ -1,7 +1,7 @@
 -- The laws of the tests and of the search: `same` is true of equal constants and of no others, an entry that holds a constant is that constant, and a search finds an entry that meets its test, or none does.
 -- Each holds by its definition, case by case. Assumes nothing.
 use mathlib.Core.Path.{_≡_, refl, sym, ap, _∙_, subst}
-use mathlib.Core.Bool.{Bool, true, false, _||_, true≢false, false≢true}
+use mathlib.Core.Bool.{Bool, true, false, false≢true}
 use mathlib.Core.List.{List, [], _∷_}
 use mathlib.Core.Option.{Option, some, none}
 use Prim.Native.Nat.{ℕ, zero, suc, _<_}
@@ -9,6 +9,7 @@ use native.Mathlib.Omega.{arith}
 use lib.ListN.{length, getD}
 use lib.Dec.{eqb, leb}
 use borrow.Author.Tests.{eqb-true, eqb-false, eq-eqb, ne-eqb, leb-false}
+use Rattle.laws.specs.Truth.{or-false}
 use Rattle.constants.specs.declared.Val.{Val}
 use Rattle.constants.specs.declared.Table.{Table}
 use Rattle.constants.specs.declared.Added.{Added}
@@ -185,10 +186,6 @@ module _ (p : ℕ → ℕ → Bool) (n : ℕ) (ks ws : List ℕ) where
   find-nothing e = subst (Means p n ks ws) e (find-means p n ks ws)
 
 -- ---- a free entry
-
-or-false : (a b : Bool) → (a || b) ≡ false → (a ≡ false) × (b ≡ false)
-or-false true b h = absurd (true≢false h)
-or-false false b h = (refl, h)
 
 pub not-full : (count : ℕ) (ks ws : List ℕ) → full count ks ws ≡ false → (count < length ks) × (count < length ws)
 not-full count ks ws h =

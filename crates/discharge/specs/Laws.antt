@@ -10,11 +10,7 @@ use Rattle.refusals.specs.declared.Refusal.{Refusal}
 use Rattle.instructions.specs.Limits.{maxIndexRk}
 use Rattle.instructions.specs.Word.{aOf, setAOf, setBOf, setCOf}
 use Rattle.instructions.specs.declared.OpCode.the-variants as op
-use Rattle.constants.specs.Table.{added, out}
-use Rattle.constants.specs.declared.Table.{Table}
-use Rattle.constants.specs.declared.Val.{Val}
 use Rattle.constants.specs.declared.Val.the-variants as val
-use Rattle.constants.specs.declared.Added.the-variants as added-as
 use Rattle.model.specs.declared.ExprKind.{ExprKind}
 use Rattle.model.specs.declared.ExprKind.the-variants.{Nil, True, False, K, KNum, Local, Global, Indexed, Jmp, Relocable, NonReloc, Call, VarArg}
 use Rattle.model.specs.declared.ExprContext.{ExprContext}
@@ -24,7 +20,7 @@ use Rattle.model.specs.declared.Described.{Described}
 use Rattle.model.specs.Steps.{Buffers, Step, Result, done, refused, andThen, skip, givenIs, describedIs}
 use Rattle.model.specs.Descriptor.{is, jumps, has-jumps, isKind}
 use Rattle.model.specs.Jumps.{word, concat-jumps, linked, jump-list, need-value, patch-list-aux}
-use Rattle.model.specs.Emission.{concat, emit-jump, code-label, patch-to-here, get-label, emit-abc, emit-abx, emit-nil, alloc-reg, free-reg, with-table, add-constant}
+use Rattle.model.specs.Emission.{concat, emit-jump, code-label, patch-to-here, get-label, emit-abc, emit-abx, emit-nil, alloc-reg, free-reg, add-constant}
 use Rattle.model.specs.Discharge.{discharge-kind, discharge-vars, free-expr, number-constant, load-kind, move, discharge2reg, discharge2anyreg, land, load-both, settle, join-jump, exp2reg, exp2nextreg, exp2anyreg, exp2val, small, near, rk-kind, exp2rk}
 use Rattle.emission.specs.Parts.{bufs}
 use Rattle.emission.specs.Laws.{branch}
@@ -94,19 +90,6 @@ value-is Relocable e s m q a b c d f = refl
 value-is NonReloc e s m q a b c d f = refl
 value-is Call e s m q a b c d f = absurd (true≢false (rw q at d))
 value-is VarArg e s m q a b c d f = absurd (true≢false (rw q at f))
-
--- ---- constants
-
-module _ (v : Val) (s : State) (cs ls ks vs p : List ℕ) where
-  pub constant-at : {i : ℕ} {t : Table} {kb vb pb : List ℕ} → added [] (s .table) v ks vs p ≡ out (added-as.At i t) kb vb pb →
-      add-constant [] v s (bufs cs ls ks vs p) ≡ done i (with-table t s) (bufs cs ls kb vb pb)
-  unfolding add-constant
-  constant-at h = simp (add-constant, h)
-
-  pub constant-refused : {k : Refusal} {kb vb pb : List ℕ} → added [] (s .table) v ks vs p ≡ out (added-as.Refused k) kb vb pb →
-      add-constant [] v s (bufs cs ls ks vs p) ≡ refused k (bufs cs ls kb vb pb)
-  unfolding add-constant
-  constant-refused h = simp (add-constant, h)
 
 -- ---- to a register
 

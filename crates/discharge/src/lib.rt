@@ -11,16 +11,14 @@ ghost use Rattle.model.specs.declared.State.{State};
 ghost use Rattle.model.specs.Steps.{Buffers, done, andThen, steppedIs, givenIs, describedIs};
 ghost use Rattle.model.specs.Descriptor.{isKind, is, jumps, has-jumps};
 ghost use Rattle.model.specs.Jumps.{word};
-ghost use Rattle.model.specs.Emission.{with-table, add-constant};
+ghost use Rattle.model.specs.Emission.{add-constant};
 ghost use Rattle.model.specs.Discharge.{discharge-kind, discharge-vars, number-constant, load-kind, discharge2reg as discharge2regOf, discharge2anyreg as discharge2anyregOf, land as landOf, load-both, settle as settleOf, join-jump, exp2reg as exp2regOf, exp2nextreg as exp2nextregOf, exp2anyreg as exp2anyregOf, exp2val as exp2valOf, small as smallOf, near as nearOf, rk-kind, exp2rk as exp2rkOf};
 ghost use Rattle.emission.specs.Parts.{bufs};
 ghost use Rattle.discharge.specs.Kinds.{put, give, over-of, load-yes, load-no, placed};
 ghost use Rattle.discharge.specs.Wants.{only-value, keeps-open, is-value, is-plain, wants-operand, wanted, reg-of, landing-of, there-of, operandIs, restIs, spotIs};
 ghost use Rattle.discharge.specs.declared.Want.the-variants.{Next};
-use constants::Added;
-use constants::Table;
 use constants::Val;
-use constants::add_constant;
+use emission::add_constant;
 use emission::alloc_reg;
 use emission::code_label;
 use emission::emit_abc;
@@ -189,22 +187,6 @@ fn discharge_kind(code: &mut [u32], lines: &mut [u32], st: State, e: ExprContext
 
 // ---- constants
 
-fn with_table(st: State, table: Table) -> State
-    ensures { λ r. ⌜ with-table table st ≡ r ⌝ }
-{
-    State {
-        at: st.at,
-        line: st.line,
-        pc: st.pc,
-        table,
-        active: st.active,
-        free: st.free,
-        frame: st.frame,
-        jpc: st.jpc,
-        label: st.label,
-    }
-}
-
 // The index of a constant that needs no chunk.
 pub fn own_constant(
     kinds: &mut [u8],
@@ -216,12 +198,7 @@ pub fn own_constant(
     ensures { λ r. ⌜ ((cs ls : List ℕ) → add-constant [] v st (bufs cs ls (now (kinds .entry)) (now (values .entry)) (now (pool .entry))) ≡ givenIs r (bufs cs ls (now (kinds .exit)) (now (values .exit)) (now (pool .exit)))) ⌝ }
 {
     let none = b"";
-    let table = st.table;
-    let answer = add_constant(kinds, values, pool, none, table, v);
-    match answer {
-        Added::At(i, t) => Given::Done(with_table(st, t), i),
-        Added::Refused(k) => Given::Refused(k),
-    }
+    add_constant(none, kinds, values, pool, st, v)
 }
 
 pub fn number_constant(

@@ -16,10 +16,14 @@ use Rattle.instructions.specs.Field.{setAt}
 use Rattle.instructions.specs.Word.{bOf, abcOf, aBxOf, aSbxOf, setBOf}
 use Rattle.instructions.specs.declared.OpCode.{OpCode}
 use Rattle.instructions.specs.declared.OpCode.the-variants.{LoadBool, LoadNil, Jmp}
+use Rattle.constants.specs.Table.{added, out}
+use Rattle.constants.specs.declared.Table.{Table}
+use Rattle.constants.specs.declared.Val.{Val}
+use Rattle.constants.specs.declared.Added.the-variants as added-as
 use Rattle.model.specs.declared.State.{State}
 use Rattle.model.specs.Steps.{Buffers, Step, Result, done, refused, andThen, change, change-words, skip, refuse}
 use Rattle.model.specs.Jumps.{word, concat-jumps, linked, remove-values, patch-list-aux}
-use Rattle.model.specs.Emission.{with-pc, with-free, with-frame, with-jpc, discharge-jpc, no-room, store, push, emit-at, emit, emit-abc, concat, emit-jump, patch-to-here, get-label, code-label, adjoins, load-nil, emit-nil, check-stack, reserve-regs, alloc-reg, free-reg}
+use Rattle.model.specs.Emission.{with-pc, with-free, with-frame, with-jpc, discharge-jpc, no-room, store, push, emit-at, emit, emit-abc, concat, emit-jump, patch-to-here, get-label, code-label, adjoins, load-nil, emit-nil, check-stack, reserve-regs, alloc-reg, free-reg, with-table, add-constant}
 use Rattle.emission.specs.Parts.{bufs, labelled}
 
 -- if then else
@@ -214,3 +218,16 @@ module _ (r : ℕ) (s : State) (m : Buffers) where
   pub free-kept : topmost ≡ false → free-reg r s m ≡ done tt s m
   unfolding free-reg andThen
   free-kept h = ap (λ (b : Bool). branch b (change (with-free r)) skip s m) h
+
+-- ---- constants
+
+module _ (chunk : List ℕ) (v : Val) (s : State) (cs ls ks vs p : List ℕ) where
+  pub constant-at : {i : ℕ} {t : Table} {kb vb pb : List ℕ} → added chunk (s .table) v ks vs p ≡ out (added-as.At i t) kb vb pb →
+      add-constant chunk v s (bufs cs ls ks vs p) ≡ done i (with-table t s) (bufs cs ls kb vb pb)
+  unfolding add-constant
+  constant-at h = simp (add-constant, h)
+
+  pub constant-refused : {k : Refusal} {kb vb pb : List ℕ} → added chunk (s .table) v ks vs p ≡ out (added-as.Refused k) kb vb pb →
+      add-constant chunk v s (bufs cs ls ks vs p) ≡ refused k (bufs cs ls kb vb pb)
+  unfolding add-constant
+  constant-refused h = simp (add-constant, h)

@@ -1,11 +1,14 @@
-// Emitting words and taking registers: the lower part of rilua's codegen.rs, over the lent words and lines. A state goes in by value and comes back in the answer;
+// Emitting words, listing constants and taking registers: the lower part of rilua's codegen.rs, over the lent words and lines. A state goes in by value and comes back in the answer;
 // what cannot be refused answers with the state alone. Nothing is assumed of the state.
 ghost use mathlib.Core.List.{List};
 ghost use mathlib.Core.Path.{_≡_};
 ghost use Prim.Native.Nat.{ℕ, _+_};
 ghost use Rattle.model.specs.Steps.{Buffers, done, steppedIs, givenIs};
-ghost use Rattle.model.specs.Emission.{with-pc, with-free, with-frame, with-jpc, with-label, discharge-jpc, push as pushOf, emit-at, emit as emitOf, emit-abc, emit-abx, emit-jump, patch-to-here, get-label, code-label, adjoins as adjoinsOf, load-nil, emit-nil, check-stack, reserve-regs, alloc-reg, free-reg};
+ghost use Rattle.model.specs.Emission.{with-pc, with-free, with-frame, with-jpc, with-label, discharge-jpc, push as pushOf, emit-at, emit as emitOf, emit-abc, emit-abx, emit-jump, patch-to-here, get-label, code-label, adjoins as adjoinsOf, load-nil, emit-nil, check-stack, reserve-regs, alloc-reg, free-reg, with-table, add-constant};
 ghost use Rattle.emission.specs.Parts.{bufs};
+use constants::Added;
+use constants::Table;
+use constants::Val;
 use instructions::Instruction;
 use instructions::OpCode;
 use jumps::concat_jumps;
@@ -102,6 +105,22 @@ fn with_label(st: State, label: usize) -> State
         frame: st.frame,
         jpc: st.jpc,
         label,
+    }
+}
+
+fn with_table(st: State, table: Table) -> State
+    ensures { λ r. ⌜ with-table table st ≡ r ⌝ }
+{
+    State {
+        at: st.at,
+        line: st.line,
+        pc: st.pc,
+        table,
+        active: st.active,
+        free: st.free,
+        frame: st.frame,
+        jpc: st.jpc,
+        label: st.label,
     }
 }
 
@@ -273,6 +292,27 @@ pub fn emit_nil(code: &mut [u32], lines: &mut [u32], st: State, from: usize) -> 
         return Stepped::Done(st);
     }
     load_nil(code, lines, st, from)
+}
+
+// ---- constants
+
+// The index of a constant; a text's bytes stand in the chunk.
+pub fn add_constant(
+    chunk: &[u8],
+    kinds: &mut [u8],
+    values: &mut [u64],
+    pool: &mut [u8],
+    st: State,
+    v: Val,
+) -> Given
+    ensures { λ r. ⌜ ((cs ls : List ℕ) → add-constant (now (chunk .entry)) v st (bufs cs ls (now (kinds .entry)) (now (values .entry)) (now (pool .entry))) ≡ givenIs r (bufs cs ls (now (kinds .exit)) (now (values .exit)) (now (pool .exit)))) ⌝ }
+{
+    let table = st.table;
+    let answer = constants::add_constant(kinds, values, pool, chunk, table, v);
+    match answer {
+        Added::At(i, t) => Given::Done(with_table(st, t), i),
+        Added::Refused(k) => Given::Refused(k),
+    }
 }
 
 // ---- registers

@@ -7,6 +7,7 @@ use mathlib.Core.Option.{Option, some, none}
 use native.Mathlib.Omega.{arith as nat}
 use Rattle.model.specs.Values.{truth, is-true}
 use Rattle.model.specs.Running.{same as agrees}
+use Rattle.laws.specs.Truth.{or-false}
 use Rattle.labelled.specs.Code.{same, same-ne, same-true, same-false, same-refl, val, always, test, tset, tseta, cmp, Tgt, to, lbl, setw, lbs, Instr, pl, br, width, Code, size, Act, keep, land, re, edit}
 use Rattle.labelled.specs.Machine.{Hist, Regs, Setting, pick, upd, Out, at, exit, stuck, postA, post, Past, goto, choose, compared, perform, stepAt, step, exec}
 use Rattle.labelled.specs.Edits.{size-edit, step-mark, exec-edit}
@@ -114,13 +115,6 @@ abbrev pub Shows : Bool → ℕ → ℕ → Out → Type 0
 Shows vals t f (at p R h) = Unit {0}
 Shows vals t f stuck = Unit {0}
 Shows vals t f (exit ℓ b R h) = ((same ℓ t || same ℓ f) && not (vals && isSome b)) ≡ false
-
-or-false : (a b : Bool) → (a || b) ≡ false → (a ≡ false) × (b ≡ false)
-or-false true b e = absurd (bt e)
-  where
-    bt : true ≡ false → ⊥
-    bt q = let z : _≡_ {A = ℕ} 0 1 = cc in omega nat
-or-false false b e = (refl, e)
 
 module _ (Γ : Setting) where
   shows-choose : (vals : Bool) (t f : ℕ) (k : Bool) (a b : Out) → Shows vals t f a → Shows vals t f b → Shows vals t f (choose Γ k a b)

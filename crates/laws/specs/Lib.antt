@@ -1,1 +1,2 @@
 pub mod Matched
+pub mod Truth

@@ -1,6 +1,11 @@
 // A node's fields, with its refusals in their order.
 ghost use mathlib.Core.Path.{_≡_};
+ghost use mathlib.Core.List.{List};
+ghost use mathlib.Core.Bool.{Bool};
+ghost use Prim.Native.Nat.{ℕ};
 ghost use Rattle.nodes.specs.Nodes.{node, nodeAt, fieldsAt};
+ghost use Rattle.nodes.specs.declared.ast.Head.the-variants as head;
+ghost use Rattle.nodes.specs.declared.ast.Kind.the-variants.{Number, Str, VarArg, Name, Binary, Unary, Field, MethodCall, Call};
 use crate::ast::BinOp;
 use crate::ast::BinOpRead;
 use crate::ast::Head;
@@ -31,66 +36,142 @@ fn done(head: Head, line: u32, next: usize) -> NodeRead
     NodeRead::Node(Node { head, line, next })
 }
 
+// The same by the head's variant: a caller then holds no `Head`, which its check would carry through each step.
+fn leaf(leaf: Leaf, line: u32, next: usize) -> NodeRead
+    ensures { λ r. ⌜ node (head.Leaf leaf) line next ≡ r ⌝ }
+{
+    done(Head::Leaf(leaf), line, next)
+}
+
+fn one(one: One, line: u32, next: usize) -> NodeRead
+    ensures { λ r. ⌜ node (head.One one) line next ≡ r ⌝ }
+{
+    done(Head::One(one), line, next)
+}
+
+fn two(two: Two, line: u32, next: usize) -> NodeRead
+    ensures { λ r. ⌜ node (head.Two two) line next ≡ r ⌝ }
+{
+    done(Head::Two(two), line, next)
+}
+
+fn many(many: Many, args: u8, line: u32, next: usize) -> NodeRead
+    ensures { λ r. ⌜ node (head.Many many args) line next ≡ r ⌝ }
+{
+    done(Head::Many(many, args), line, next)
+}
+
+// The fields of each kind that has some; only a vararg asks whether there are varargs.
+fn read_number(chunk: &[u8], at: usize, line: u32) -> NodeRead
+    ensures { λ r. ⌜ ((va : Bool) → fieldsAt (now (chunk .entry)) va Number at line ≡ r) ⌝ }
+{
+    let BitsRead::Bits(b) = reader::read_bits(chunk, at) else {
+        return NodeRead::Refused(Refusal::Missing);
+    };
+    leaf(Leaf::Number(b), line, at + 8)
+}
+
+fn read_str(chunk: &[u8], at: usize, line: u32) -> NodeRead
+    ensures { λ r. ⌜ ((va : Bool) → fieldsAt (now (chunk .entry)) va Str at line ≡ r) ⌝ }
+{
+    let TextRead::Text(t) = reader::read_text(chunk, at) else {
+        return NodeRead::Refused(Refusal::Missing);
+    };
+    leaf(Leaf::Str(t), line, t.start + t.len)
+}
+
+fn read_vararg(varargs: bool, at: usize, line: u32) -> NodeRead
+    ensures { λ r. ⌜ ((s : List ℕ) → fieldsAt s varargs VarArg at line ≡ r) ⌝ }
+{
+    if varargs {
+        return leaf(Leaf::VarArg, line, at);
+    }
+    NodeRead::Refused(Refusal::Varargs)
+}
+
+fn read_name(chunk: &[u8], at: usize, line: u32) -> NodeRead
+    ensures { λ r. ⌜ ((va : Bool) → fieldsAt (now (chunk .entry)) va Name at line ≡ r) ⌝ }
+{
+    let TextRead::Text(t) = reader::read_text(chunk, at) else {
+        return NodeRead::Refused(Refusal::Missing);
+    };
+    leaf(Leaf::Name(t), line, t.start + t.len)
+}
+
+fn read_binary(chunk: &[u8], at: usize, line: u32) -> NodeRead
+    ensures { λ r. ⌜ ((va : Bool) → fieldsAt (now (chunk .entry)) va Binary at line ≡ r) ⌝ }
+{
+    let ByteRead::Byte(b) = reader::read_byte(chunk, at) else {
+        return NodeRead::Refused(Refusal::Missing);
+    };
+    let BinOpRead::Known(o) = BinOp::from_u8(b) else {
+        return NodeRead::Refused(Refusal::Kind);
+    };
+    two(Two::Binary(o), line, at + 1)
+}
+
+fn read_unary(chunk: &[u8], at: usize, line: u32) -> NodeRead
+    ensures { λ r. ⌜ ((va : Bool) → fieldsAt (now (chunk .entry)) va Unary at line ≡ r) ⌝ }
+{
+    let ByteRead::Byte(b) = reader::read_byte(chunk, at) else {
+        return NodeRead::Refused(Refusal::Missing);
+    };
+    let UnOpRead::Known(o) = UnOp::from_u8(b) else {
+        return NodeRead::Refused(Refusal::Kind);
+    };
+    one(One::Unary(o), line, at + 1)
+}
+
+fn read_field(chunk: &[u8], at: usize, line: u32) -> NodeRead
+    ensures { λ r. ⌜ ((va : Bool) → fieldsAt (now (chunk .entry)) va Field at line ≡ r) ⌝ }
+{
+    let TextRead::Text(t) = reader::read_text(chunk, at) else {
+        return NodeRead::Refused(Refusal::Missing);
+    };
+    one(One::Field(t), line, t.start + t.len)
+}
+
+fn read_method_call(chunk: &[u8], at: usize, line: u32) -> NodeRead
+    ensures { λ r. ⌜ ((va : Bool) → fieldsAt (now (chunk .entry)) va MethodCall at line ≡ r) ⌝ }
+{
+    let TextRead::Text(t) = reader::read_text(chunk, at) else {
+        return NodeRead::Refused(Refusal::Missing);
+    };
+    let end = t.start + t.len;
+    let ByteRead::Byte(n) = reader::read_byte(chunk, end) else {
+        return NodeRead::Refused(Refusal::Missing);
+    };
+    many(Many::MethodCall(t), n, line, end + 1)
+}
+
+fn read_call(chunk: &[u8], at: usize, line: u32) -> NodeRead
+    ensures { λ r. ⌜ ((va : Bool) → fieldsAt (now (chunk .entry)) va Call at line ≡ r) ⌝ }
+{
+    let ByteRead::Byte(n) = reader::read_byte(chunk, at) else {
+        return NodeRead::Refused(Refusal::Missing);
+    };
+    many(Many::Call, n, line, at + 1)
+}
+
 // The fields behind kind, map and line.
 fn read_fields(chunk: &[u8], varargs: bool, kind: Kind, at: usize, line: u32) -> NodeRead
     ensures { λ r. ⌜ fieldsAt (now (chunk .entry)) varargs kind at line ≡ r ⌝ }
 {
     match kind {
-        Kind::Nil => done(Head::Leaf(Leaf::Nil), line, at),
-        Kind::True => done(Head::Leaf(Leaf::True), line, at),
-        Kind::False => done(Head::Leaf(Leaf::False), line, at),
-        Kind::Number => match reader::read_bits(chunk, at) {
-            BitsRead::Bits(b) => done(Head::Leaf(Leaf::Number(b)), line, at + 8),
-            BitsRead::NoBits => NodeRead::Refused(Refusal::Missing),
-        },
-        Kind::Str => match reader::read_text(chunk, at) {
-            TextRead::Text(t) => done(Head::Leaf(Leaf::Str(t)), line, t.start + t.len),
-            TextRead::NoText => NodeRead::Refused(Refusal::Missing),
-        },
-        Kind::VarArg => {
-            if varargs {
-                return done(Head::Leaf(Leaf::VarArg), line, at);
-            }
-            NodeRead::Refused(Refusal::Varargs)
-        }
-        Kind::Name => match reader::read_text(chunk, at) {
-            TextRead::Text(t) => done(Head::Leaf(Leaf::Name(t)), line, t.start + t.len),
-            TextRead::NoText => NodeRead::Refused(Refusal::Missing),
-        },
-        Kind::Binary => match reader::read_byte(chunk, at) {
-            ByteRead::Byte(b) => match BinOp::from_u8(b) {
-                BinOpRead::Known(o) => done(Head::Two(Two::Binary(o)), line, at + 1),
-                BinOpRead::Unknown => NodeRead::Refused(Refusal::Kind),
-            },
-            ByteRead::NoByte => NodeRead::Refused(Refusal::Missing),
-        },
-        Kind::Unary => match reader::read_byte(chunk, at) {
-            ByteRead::Byte(b) => match UnOp::from_u8(b) {
-                UnOpRead::Known(o) => done(Head::One(One::Unary(o)), line, at + 1),
-                UnOpRead::Unknown => NodeRead::Refused(Refusal::Kind),
-            },
-            ByteRead::NoByte => NodeRead::Refused(Refusal::Missing),
-        },
-        Kind::Index => done(Head::Two(Two::Index), line, at),
-        Kind::Field => match reader::read_text(chunk, at) {
-            TextRead::Text(t) => done(Head::One(One::Field(t)), line, t.start + t.len),
-            TextRead::NoText => NodeRead::Refused(Refusal::Missing),
-        },
-        Kind::MethodCall => match reader::read_text(chunk, at) {
-            TextRead::Text(t) => {
-                let end = t.start + t.len;
-                match reader::read_byte(chunk, end) {
-                    ByteRead::Byte(n) => done(Head::Many(Many::MethodCall(t), n), line, end + 1),
-                    ByteRead::NoByte => NodeRead::Refused(Refusal::Missing),
-                }
-            }
-            TextRead::NoText => NodeRead::Refused(Refusal::Missing),
-        },
-        Kind::Call => match reader::read_byte(chunk, at) {
-            ByteRead::Byte(n) => done(Head::Many(Many::Call, n), line, at + 1),
-            ByteRead::NoByte => NodeRead::Refused(Refusal::Missing),
-        },
-        Kind::Paren => done(Head::One(One::Paren), line, at),
+        Kind::Nil => leaf(Leaf::Nil, line, at),
+        Kind::True => leaf(Leaf::True, line, at),
+        Kind::False => leaf(Leaf::False, line, at),
+        Kind::Number => read_number(chunk, at, line),
+        Kind::Str => read_str(chunk, at, line),
+        Kind::VarArg => read_vararg(varargs, at, line),
+        Kind::Name => read_name(chunk, at, line),
+        Kind::Binary => read_binary(chunk, at, line),
+        Kind::Unary => read_unary(chunk, at, line),
+        Kind::Index => two(Two::Index, line, at),
+        Kind::Field => read_field(chunk, at, line),
+        Kind::MethodCall => read_method_call(chunk, at, line),
+        Kind::Call => read_call(chunk, at, line),
+        Kind::Paren => one(One::Paren, line, at),
     }
 }
 
@@ -110,11 +191,14 @@ pub fn read_node(chunk: &[u8], varargs: bool, at: usize, line: u32) -> NodeRead
     if map / 2 != kind.map() {
         return NodeRead::Refused(Refusal::Map);
     }
-    if map % 2 == 0 {
-        return read_fields(chunk, varargs, kind, at + 2, line);
+    let mut from = at + 2;
+    let mut own = line;
+    if map % 2 != 0 {
+        let LineRead::Line(l) = reader::read_line(chunk, from) else {
+            return NodeRead::Refused(Refusal::Missing);
+        };
+        own = l;
+        from = at + 6;
     }
-    let LineRead::Line(l) = reader::read_line(chunk, at + 2) else {
-        return NodeRead::Refused(Refusal::Missing);
-    };
-    read_fields(chunk, varargs, kind, at + 6, l)
+    read_fields(chunk, varargs, kind, from, own)
 }

@@ -4,7 +4,6 @@ use Prim.Native.Nat.{ℕ, zero, suc, _+_, _<_, _≤_}
 use mathlib.Core.Bool.{Bool, true, false, _||_}
 use mathlib.Core.Path.{_≡_, refl, _∙_, ap}
 use mathlib.Core.List.{List, [], _∷_}
-use native.Mathlib.Omega.{arith}
 use native.Mathlib.Numerals.{add-one}
 use lib.ListN.{length, set}
 use lib.Dec.{leb}
@@ -18,6 +17,7 @@ use Rattle.model.specs.Jumps.{concat-jumps, linked, remove-values}
 use Rattle.model.specs.Emission.{with-pc, with-jpc, with-label, discharge-jpc, no-room, store, push, emit-at, emit, concat, emit-jump, patch-to-here, get-label}
 use Rattle.model.specs.declared.ExprContext.{ExprContext}
 use Rattle.model.specs.Conditions.{invertjump}
+use Rattle.laws.specs.Truth.{or-false}
 use Rattle.labelled.specs.Code.{Code, size}
 use Rattle.threads.specs.Edits.{pick-is}
 use Rattle.threads.specs.Words.{newJ, patch-none, linked-none}
@@ -130,10 +130,6 @@ written-at line us s m = record { code = us; lines = set (m .lines) (s .pc) line
 
 abbrev pub written : List ℕ → State → Buffers → Buffers
 written us s m = written-at (s .line) us s m
-
-or-false : (a b : Bool) → (a || b) ≡ false → (a ≡ false) × (b ≡ false)
-or-false true b h = absurd (let z : _≡_ {A = ℕ} 0 1 = cc in omega arith)
-or-false false b h = (refl, h)
 
 pub roomy : (s : State) (m : Buffers) → no-room s m ≡ false → (s .pc < length (m .code)) × ((s .pc < length (m .lines)) × (s .pc < maxWords))
 roomy s m h =

@@ -1,5 +1,6 @@
--- Each way out is one way through `nodeAt`: the tests taken and the fields read on it rewrite the definition to the answer.
+-- Each way out is one way through `nodeAt`: the tests taken and the fields read on it rewrite the definition to the answer. The node has its own line or that of the node before.
 use mathlib.Core.Path.{_∙_}
+use mathlib.Core.Logic.{⊎-elim}
 use native.Mathlib.Omega.{arith}
 use borrow.Author.Tests.{eq-eqb, ne-eqb}
 use Rattle.cursor.specs.Fields.{byte-inside, line-inside}
@@ -19,7 +20,7 @@ enum-told c = search needs
 
 returns : tie.Need-returns
 unfolding nodeAt
-returns c = simp (nodeAt, c .before .before .read-byte .ensures, c .enum-told .given .1)
+returns c = rw (c .before .before .read-byte .ensures, c .enum-told .given .1)
 
 from-u8-requires : tie.Need-from-u8-requires
 from-u8-requires c κs = search needs
@@ -35,7 +36,7 @@ unfolding nodeAt
 returns-2 c =
     let p4 = c .before .before .before .before in
     let p6 = p4 .before .before in
-    simp (nodeAt, p6 .read-byte .ensures, p4 .b .given .1, c .before .before .from-u8 .ensures, c .enum-told2 .given .1)
+    rw (p6 .read-byte .ensures, p4 .b .given .1, c .before .before .from-u8 .ensures, c .enum-told2 .given .1)
 
 add-read-byte : tie.Need-add-read-byte
 add-read-byte c =
@@ -59,7 +60,7 @@ returns-3 c =
     let p6 = p4 .before .before in
     let p8 = p6 .before .before in
     let p10 = p8 .before .before in
-    simp (nodeAt, p10 .read-byte .ensures, p8 .b .given .1, p6 .from-u8 .ensures, p4 .kind .given .1, c .before .before .read-byte2 .ensures, c .enum-told3 .given .1)
+    rw (p10 .read-byte .ensures, p8 .b .given .1, p6 .from-u8 .ensures, p4 .kind .given .1, c .before .before .read-byte2 .ensures, c .enum-told3 .given .1)
 
 map-requires : tie.Need-map-requires
 map-requires c κs = search needs
@@ -73,36 +74,14 @@ returns-4 c =
     let p9 = p7 .before .before in
     let p11 = p9 .before .before in
     let p13 = p11 .before .before in
-    simp (nodeAt, p13 .read-byte .ensures, p11 .b .given .1, p9 .from-u8 .ensures, p7 .kind .given .1, p5 .read-byte2 .ensures, p3 .map .given .1, c .before .map2 .ensures, ne-eqb _ _ (c .if1 .taken))
+    rw (p13 .read-byte .ensures, p11 .b .given .1, p9 .from-u8 .ensures, p7 .kind .given .1, p5 .read-byte2 .ensures, p3 .map .given .1, c .before .map2 .ensures, ne-eqb _ _ (c .if1 .taken))
 
-add-read-fields : tie.Need-add-read-fields
-add-read-fields c =
-    let p4 = c .before .before .before .before in
-    let p6 = p4 .before .before in
-    let p16 = p6 .before .before .before .before .before .before .before .before .before .before in
-    omega (arith, p16, byte-inside _ _ _ (p6 .read-byte2 .ensures ∙ p4 .map .given .1))
-
-read-fields-requires : tie.Need-read-fields-requires
-read-fields-requires c κs = search needs
-
-returns-5 : tie.Need-returns-5
-unfolding nodeAt
-returns-5 c =
+add-from : tie.Need-add-from
+add-from c =
     let p3 = c .before .before .before in
     let p5 = p3 .before .before in
-    let p7 = p5 .before .before in
-    let p9 = p7 .before .before in
-    let p11 = p9 .before .before in
-    let p13 = p11 .before .before in
-    let p15 = p13 .before .before in
-    simp (nodeAt, p15 .read-byte .ensures, p13 .b .given .1, p11 .from-u8 .ensures, p9 .kind .given .1, p7 .read-byte2 .ensures, p5 .map .given .1, p3 .map2 .ensures, eq-eqb _ _ (c .before .before .if1 .left), eq-eqb _ _ (c .before .if2 .taken), c .read-fields .ensures)
-
-add-read-line : tie.Need-add-read-line
-add-read-line c =
-    let p4 = c .before .before .before .before in
-    let p6 = p4 .before .before in
-    let p16 = p6 .before .before .before .before .before .before .before .before .before .before in
-    omega (arith, p16, byte-inside _ _ _ (p6 .read-byte2 .ensures ∙ p4 .map .given .1))
+    let p15 = p5 .before .before .before .before .before .before .before .before .before .before in
+    omega (arith, p15, byte-inside _ _ _ (p5 .read-byte2 .ensures ∙ p3 .map .given .1))
 
 read-line-requires : tie.Need-read-line-requires
 read-line-requires c κs = search needs
@@ -113,9 +92,9 @@ enum-known-l c = search needs
 enum-told-4 : tie.Need-enum-told-4
 enum-told-4 c = search needs
 
-returns-6 : tie.Need-returns-6
+returns-5 : tie.Need-returns-5
 unfolding nodeAt
-returns-6 c =
+returns-5 c =
     let p3 = c .before .before .before in
     let p4 = p3 .before in
     let p5 = p4 .before in
@@ -125,31 +104,33 @@ returns-6 c =
     let p13 = p11 .before .before in
     let p15 = p13 .before .before in
     let p17 = p15 .before .before in
-    simp (nodeAt, p17 .read-byte .ensures, p15 .b .given .1, p13 .from-u8 .ensures, p11 .kind .given .1, p9 .read-byte2 .ensures, p7 .map .given .1, p5 .map2 .ensures, eq-eqb _ _ (p4 .if1 .left), ne-eqb _ _ (p3 .if2 .left), c .before .before .read-line .ensures, c .enum-told4 .given .1)
+    rw (p17 .read-byte .ensures, p15 .b .given .1, p13 .from-u8 .ensures, p11 .kind .given .1, p9 .read-byte2 .ensures, p7 .map .given .1, p5 .map2 .ensures, eq-eqb _ _ (p4 .if1 .left), ne-eqb _ _ (p3 .if2 .taken), c .before .before .read-line .ensures, c .enum-told4 .given .1)
 
-add-read-fields-2 : tie.Need-add-read-fields-2
-add-read-fields-2 c =
+add-from-2 : tie.Need-add-from-2
+add-from-2 c =
     let p3 = c .before .before .before in
     let p20 = p3 .before .before .before .before .before .before .before .before .before .before .before .before .before .before .before .before .before in
     omega (arith, p20, line-inside _ _ _ (p3 .read-line .ensures ∙ c .before .l .given .1))
 
-read-fields-requires-2 : tie.Need-read-fields-requires-2
-read-fields-requires-2 c κs = search needs
+read-fields-requires : tie.Need-read-fields-requires
+read-fields-requires c κs = search needs
 
-returns-7 : tie.Need-returns-7
+returns-6 : tie.Need-returns-6
 unfolding nodeAt
-returns-7 c =
-    let p4 = c .before .before .before .before in
-    let p5 = p4 .before in
-    let p6 = p5 .before in
-    let p7 = p6 .before in
+returns-6 c =
+    let p3 = c .before .before .before in
+    let p5 = p3 .before .before in
+    let p7 = p5 .before .before in
     let p9 = p7 .before .before in
     let p11 = p9 .before .before in
     let p13 = p11 .before .before in
     let p15 = p13 .before .before in
-    let p17 = p15 .before .before in
-    let p19 = p17 .before .before in
-    simp (nodeAt, p19 .read-byte .ensures, p17 .b .given .1, p15 .from-u8 .ensures, p13 .kind .given .1, p11 .read-byte2 .ensures, p9 .map .given .1, p7 .map2 .ensures, eq-eqb _ _ (p6 .if1 .left), ne-eqb _ _ (p5 .if2 .left), p4 .read-line .ensures, c .before .before .l .given .1, c .read-fields2 .ensures)
+    rw
+    (p15 .read-byte .ensures, p13 .b .given .1, p11 .from-u8 .ensures, p9 .kind .given .1, p7 .read-byte2 .ensures, p5 .map .given .1, p3 .map2 .ensures, eq-eqb _ _ (c .before .before .if1 .left))
+    (⊎-elim
+    (λ w. rw (ne-eqb _ _ (w .0 .taken), w .1 .ensures, w .3 .given .1, rw (w .5, w .6) at (c .read-fields .ensures)))
+    (λ w. rw (eq-eqb _ _ (w .0 .left), rw (w .1, w .2) at (c .read-fields .ensures)))
+    (c .before .if2 .came))
 
 pub read-node-spec : {M : Type 1} → statement M
 read-node-spec =
@@ -170,14 +151,11 @@ read-node-spec =
     returns-3
     map-requires
     returns-4
-    add-read-fields
-    read-fields-requires
-    returns-5
-    add-read-line
+    add-from
     read-line-requires
     enum-known-l
     enum-told-4
-    returns-6
-    add-read-fields-2
-    read-fields-requires-2
-    returns-7)
+    returns-5
+    add-from-2
+    read-fields-requires
+    returns-6)

@@ -1,8 +1,8 @@
--- `discharge::own_constant` meets its contract, by that of `add_constant`. Assumes nothing.
-use Rattle.discharge.specs.Laws.{constant-at, constant-refused}
+-- `emission::add_constant` meets its contract, by that of the table. Assumes nothing.
+use Rattle.emission.specs.Laws.{constant-at, constant-refused}
 use borrow.Author.Needs.{needs}
-use Rattle.discharge.proofs.own_constant.Statement.{statement}
-use Rattle.discharge.proofs.own_constant.Tie as tie
+use Rattle.emission.proofs.add_constant.Statement.{statement}
+use Rattle.emission.proofs.add_constant.Tie as tie
 
 add-constant-requires : tie.Need-add-constant-requires
 add-constant-requires c κs = search needs
@@ -28,7 +28,7 @@ same-length-3 c = search needs
 returns : tie.Need-returns
 returns c =
     let p10 = c .before .before .before .before .before .before .before .before .before .before in
-    λ cs ls. rw (← (c .with-table .ensures)) (constant-at _ _ cs ls _ _ _ (rw (c .before .before .answer .given .1) at (p10 .add-constant .ensures)))
+    λ cs ls. rw (← ((c .with-table .ensures))) (constant-at _ _ _ cs ls _ _ _ (rw ((c .before .before .answer .given .1)) at ((p10 .add-constant .ensures))))
 
 same-length-4 : tie.Need-same-length-4
 same-length-4 c = search needs
@@ -42,10 +42,10 @@ same-length-6 c = search needs
 returns-2 : tie.Need-returns-2
 returns-2 c =
     let p9 = c .before .before .before .before .before .before .before .before .before in
-    λ cs ls. constant-refused _ _ cs ls _ _ _ (rw (c .before .answer2 .given .1) at (p9 .add-constant .ensures))
+    λ cs ls. constant-refused _ _ _ cs ls _ _ _ (rw ((c .before .answer2 .given .1)) at ((p9 .add-constant .ensures)))
 
-pub own-constant-spec : {M : Type 1} → statement M
-own-constant-spec =
+pub add-constant-spec : {M : Type 1} → statement M
+add-constant-spec =
     tie.close
     (tie.spec
     add-constant-requires
