@@ -22,7 +22,7 @@ use Rattle.discharge.specs.declared.Spot.{Spot}
 use Rattle.discharge.specs.declared.Spot.the-variants as spot
 use Rattle.discharge.specs.Kinds.{kind-is, give, placed, any-of}
 use Rattle.discharge.specs.Laws.{to-reg, to-reg-refused, reg-refused, next-done, next-refused, any-done, any-refused, taken-done, taken-refused, any-jumps, any-there, any-reused, any-next, any-elsewhere, val-jumps, val-plain, operand-done, operand-refused}
-use Rattle.discharge.specs.Wants.{wanted, only-value, keeps-open, value-kind, is-value, is-plain, wants-operand, reg-of, landing-of, there-of, operandIs, restIs, spotIs}
+use Rattle.discharge.specs.Wants.{wanted, only-value, keeps-open, value-kind, is-value, is-plain, wants-operand, reg-of, landing-of, there-of, restIs, spotIs}
 
 -- ---- values
 
@@ -209,19 +209,14 @@ spot-told w e s g m q h = q ∙ ap (λ (o : Spot). spotIs w e s o m) h
 
 -- a constant will do
 pub operand-wanted : (w : Want) (e : ExprContext) (s : State) (m : Buffers) (r : Operand) (n : Buffers) → is-value e ≡ true → wants-operand w e ≡ true →
-    rk-kind (e .kind) e s m ≡ operandIs e r n → wanted w e s m ≡ restIs w e r n
+    rk-kind (e .kind) e s m ≡ restIs Rk e r n → wanted w e s m ≡ restIs w e r n
 operand-wanted Value e s m r n v q h = absurd (false≢true q)
 operand-wanted (Load reg) e s m r n v q h = absurd (false≢true q)
 operand-wanted (Reg reg) e s m r n v q h = absurd (false≢true q)
 operand-wanted Next e s m r n v q h = absurd (false≢true q)
 operand-wanted Any e s m r n v q h = absurd (false≢true q)
 operand-wanted Val e s m r n v q h = absurd (false≢true q)
-operand-wanted Rk e s m r n v q h = operand-done e s m (val-plain e s m (no-jumps _ q) ∙ value-stays e s m v) ∙ h ∙ same r
-  where
-    same : (x : Operand) → operandIs e x n ≡ restIs Rk e x n
-    same (operand.Constant a k) = refl
-    same (operand.Other a) = refl
-    same (operand.Refused k) = refl
+operand-wanted Rk e s m r n v q h = operand-done e s m (val-plain e s m (no-jumps _ q) ∙ value-stays e s m v) ∙ h
 
 -- and where none will
 pub other-wanted : (w : Want) (e : ExprContext) (s : State) (m : Buffers) → wants-operand w e ≡ false → wanted w e s m ≡ reg-of w e s m
@@ -235,10 +230,10 @@ other-wanted Rk e s m q = rk-is e s m ∙ ap as-rk (val-jumps e s m (some-jumps 
 
 -- ---- where it goes
 
-module _ (e : ExprContext) (s : State) (m : Buffers) (v : is-value e ≡ true) where
-  pub reg-at : (reg : ℕ) → exp2reg e reg s m ≡ there-of Next e reg s m
-  reg-at reg = reg-is e reg s m ∙ ap (λ (y : Result ExprContext). andThen y (λ (d : ExprContext). placed d reg)) (to-reg e reg s m (value-stays e s m v))
+pub reg-at : (e : ExprContext) (s : State) (m : Buffers) → is-value e ≡ true → (reg : ℕ) → exp2reg e reg s m ≡ there-of Next e reg s m
+reg-at e s m v reg = reg-is e reg s m ∙ ap (λ (y : Result ExprContext). andThen y (λ (d : ExprContext). placed d reg)) (to-reg e reg s m (value-stays e s m v))
 
+module _ (e : ExprContext) (s : State) (m : Buffers) (v : is-value e ≡ true) where
   pub load-at : (reg : ℕ) → discharge2reg e reg s m ≡ there-of (Load reg) e reg s m
   unfolding andThen
   load-at reg = to-reg e reg s m (value-stays e s m v) ∙ whole (load-kind (e .kind) e reg s m)
@@ -249,9 +244,7 @@ module _ (e : ExprContext) (s : State) (m : Buffers) (v : is-value e ≡ true) w
 
   module _ {t : State} (f : free-expr e s m ≡ done tt t m) where
     pub next-at : {reg : ℕ} {u : State} → alloc-reg t m ≡ done reg u m → exp2nextreg e s m ≡ there-of Next e reg u m
-    next-at {reg} {u} h =
-        next-done e s m (value-stays e s m v) ∙ taken-done e s m f h ∙ reg-is e reg u m
-        ∙ ap (λ (y : Result ExprContext). andThen y (λ (d : ExprContext). placed d reg)) (to-reg e reg u m (value-stays e u m v))
+    next-at {reg} {u} h = next-done e s m (value-stays e s m v) ∙ taken-done e s m f h ∙ reg-at e u m v reg
 
     pub next-none : {k : Refusal} → alloc-reg t m ≡ refused k m → exp2nextreg e s m ≡ refused k m
     next-none h = next-done e s m (value-stays e s m v) ∙ taken-refused e s m f h
@@ -264,7 +257,7 @@ module _ (e : ExprContext) (s : State) (m : Buffers) (v : is-value e ≡ true) w
     any-stays j = any-done e s m (value-stays e s m v) ∙ any-there e s m q j
 
     pub any-at-own : has-jumps e ≡ true → s .active ≤ e .info → exp2anyreg e s m ≡ there-of Next e (e .info) s m
-    any-at-own j l = any-done e s m (value-stays e s m v) ∙ any-reused e s m q j l ∙ reg-at (e .info)
+    any-at-own j l = any-done e s m (value-stays e s m v) ∙ any-reused e s m q j l ∙ reg-at e s m v (e .info)
 
     pub any-from-local : has-jumps e ≡ true → e .info < s .active → exp2anyreg e s m ≡ exp2nextreg e s m
     any-from-local j l = any-done e s m (value-stays e s m v) ∙ any-next e s m q j l

@@ -107,11 +107,6 @@ abbrev pub there-of : Want → ExprContext → ℕ → Step ExprContext
 there-of w e reg s m = andThen (load-kind (e .kind) e reg s m) (landing-of w reg)
 
 -- what the answers of the parts stand for
-abbrev pub operandIs : ExprContext → Operand → Buffers → Result ExprContext
-operandIs e (operand.Constant s k) m = done (is kind.K k e) s m
-operandIs e (operand.Other s) m = exp2anyreg e s m
-operandIs e (operand.Refused k) m = refused k m
-
 abbrev pub restIs : Want → ExprContext → Operand → Buffers → Result ExprContext
 restIs w e (operand.Constant s k) m = done (is kind.K k e) s m
 restIs w e (operand.Other s) m = reg-of w e s m

@@ -15,8 +15,8 @@ ghost use Rattle.model.specs.Emission.{add-constant};
 ghost use Rattle.model.specs.Discharge.{discharge-kind, discharge-vars, number-constant, load-kind, discharge2reg as discharge2regOf, discharge2anyreg as discharge2anyregOf, land as landOf, load-both, settle as settleOf, join-jump, exp2reg as exp2regOf, exp2nextreg as exp2nextregOf, exp2anyreg as exp2anyregOf, exp2val as exp2valOf, small as smallOf, near as nearOf, rk-kind, exp2rk as exp2rkOf};
 ghost use Rattle.emission.specs.Parts.{bufs};
 ghost use Rattle.discharge.specs.Kinds.{put, give, over-of, load-yes, load-no, placed};
-ghost use Rattle.discharge.specs.Wants.{only-value, keeps-open, is-value, is-plain, wants-operand, wanted, reg-of, landing-of, there-of, operandIs, restIs, spotIs};
-ghost use Rattle.discharge.specs.declared.Want.the-variants.{Next};
+ghost use Rattle.discharge.specs.Wants.{only-value, keeps-open, is-value, is-plain, wants-operand, wanted, reg-of, landing-of, there-of, restIs, spotIs};
+ghost use Rattle.discharge.specs.declared.Want.the-variants.{Next, Rk};
 use constants::Val;
 use emission::add_constant;
 use emission::alloc_reg;
@@ -503,7 +503,7 @@ fn only_value(want: Want) -> bool
 
 // A constant above 255 goes to a register.
 fn near(st: State, k: usize) -> Operand
-    ensures { λ r. ⌜ ((e : ExprContext) (m : Buffers) → nearOf e k st m ≡ operandIs e r m) ⌝ }
+    ensures { λ r. ⌜ ((e : ExprContext) (m : Buffers) → nearOf e k st m ≡ restIs Rk e r m) ⌝ }
 {
     if fits_rk(k) {
         return Operand::Constant(st, k);
@@ -513,7 +513,7 @@ fn near(st: State, k: usize) -> Operand
 
 // Nil, true or false as a constant, only while the table has at most 255 entries.
 fn small(kinds: &mut [u8], values: &mut [u64], pool: &mut [u8], st: State, v: Val) -> Operand
-    ensures { λ r. ⌜ ((e : ExprContext) (cs ls : List ℕ) → smallOf e (add-constant [] v) st (bufs cs ls (now (kinds .entry)) (now (values .entry)) (now (pool .entry))) ≡ operandIs e r (bufs cs ls (now (kinds .exit)) (now (values .exit)) (now (pool .exit)))) ⌝ }
+    ensures { λ r. ⌜ ((e : ExprContext) (cs ls : List ℕ) → smallOf e (add-constant [] v) st (bufs cs ls (now (kinds .entry)) (now (values .entry)) (now (pool .entry))) ≡ restIs Rk e r (bufs cs ls (now (kinds .exit)) (now (values .exit)) (now (pool .exit)))) ⌝ }
 {
     let table = st.table;
     if fits_rk(table.count) {
@@ -534,7 +534,7 @@ fn rk_number(
     st: State,
     e: ExprContext,
 ) -> Operand
-    ensures { λ r. ⌜ ((cs ls : List ℕ) → rk-kind KNum e st (bufs cs ls (now (kinds .entry)) (now (values .entry)) (now (pool .entry))) ≡ operandIs e r (bufs cs ls (now (kinds .exit)) (now (values .exit)) (now (pool .exit)))) ⌝ }
+    ensures { λ r. ⌜ ((cs ls : List ℕ) → rk-kind KNum e st (bufs cs ls (now (kinds .entry)) (now (values .entry)) (now (pool .entry))) ≡ restIs Rk e r (bufs cs ls (now (kinds .exit)) (now (values .exit)) (now (pool .exit)))) ⌝ }
 {
     let answer = number_constant(kinds, values, pool, st, e);
     match answer {
@@ -551,7 +551,7 @@ fn rk_kind(
     st: State,
     e: ExprContext,
 ) -> Operand
-    ensures { λ r. ⌜ ((cs ls : List ℕ) → rk-kind (e .kind) e st (bufs cs ls (now (kinds .entry)) (now (values .entry)) (now (pool .entry))) ≡ operandIs e r (bufs cs ls (now (kinds .exit)) (now (values .exit)) (now (pool .exit)))) ⌝ }
+    ensures { λ r. ⌜ ((cs ls : List ℕ) → rk-kind (e .kind) e st (bufs cs ls (now (kinds .entry)) (now (values .entry)) (now (pool .entry))) ≡ restIs Rk e r (bufs cs ls (now (kinds .exit)) (now (values .exit)) (now (pool .exit)))) ⌝ }
 {
     if is_kind(e, ExprKind::Nil) {
         return small(kinds, values, pool, st, Val::Nil);
