@@ -17,7 +17,6 @@ use Rattle.emission.specs.Laws.{branch}
 use Rattle.discharge.specs.declared.Want.{Want}
 use Rattle.discharge.specs.declared.Want.the-variants.{Value, Load, Reg, Next, Any, Val, Rk}
 use Rattle.discharge.specs.declared.Operand.{Operand}
-use Rattle.discharge.specs.declared.Operand.the-variants as operand
 use Rattle.discharge.specs.declared.Spot.{Spot}
 use Rattle.discharge.specs.declared.Spot.the-variants as spot
 use Rattle.discharge.specs.Kinds.{kind-is, give, placed, any-of}
