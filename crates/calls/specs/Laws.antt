@@ -30,22 +30,12 @@ use Rattle.model.specs.Emission.{with-free, emit-at, emit-abc, reserve-regs}
 use Rattle.model.specs.Discharge.{change-word, free-expr, exp2nextreg, exp2anyreg, exp2rk, rk}
 use Rattle.model.specs.Expressions.{search-local, set-multret, above, emit-call, closed-call, is-open, last-argument, set-indexed, code-self, string-constant, resolved, resolve-var, leaf-expr, callee}
 use Rattle.emission.specs.Parts.{bufs}
-use Rattle.emission.specs.Laws.{branch}
+use Rattle.emission.specs.Laws.{branch, then-done, then-refused}
 use Rattle.calls.specs.Parts.{fresh-of, self-of, operand-of, key-of}
 
 -- an answer that was found to be one of its kinds
 pub stepped-told : (g : Stepped) (m : Buffers) {x : Result (Unit {0})} {h : Stepped} → x ≡ steppedIs g m → g ≡ h → x ≡ steppedIs h m
 stepped-told g m q e = q ∙ ap (λ (o : Stepped). steppedIs o m) e
-
--- a step whose answer is known goes on, or is refused
-module _ {A B : Type 0} (f : A → Step B) where
-  pub then-done : {x : Result A} {a : A} {t : State} {k : Buffers} → x ≡ done a t k → andThen x f ≡ f a t k
-  unfolding andThen
-  then-done h = ap (λ (y : Result A). andThen y f) h
-
-  pub then-refused : {x : Result A} {r : Refusal} {k : Buffers} → x ≡ refused r k → andThen x f ≡ refused r k
-  unfolding andThen
-  then-refused h = ap (λ (y : Result A). andThen y f) h
 
 -- ---- calls
 

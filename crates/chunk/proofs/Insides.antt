@@ -6,7 +6,6 @@ use mathlib.Core.Bool.{Bool, true, false}
 use native.Mathlib.Omega.{arith}
 use lib.ListN.{length}
 use lib.Dec.{eqb, leb}
-use Rattle.refusals.specs.declared.Refusal.{Refusal}
 use Rattle.nodes.specs.Kinds.{kindOf, mapOf}
 use Rattle.nodes.specs.Operators.{binOpOf, unOpOf}
 use Rattle.cursor.specs.Fields.{byteAt, lineAt, bitsAt, textAt, endOf, byte-inside, line-inside, bits-inside, text-inside}
@@ -23,7 +22,6 @@ use Rattle.nodes.specs.declared.ast.UnOp.{UnOp}
 use Rattle.nodes.specs.declared.ast.UnOpRead.{UnOpRead}
 use Rattle.nodes.specs.declared.ast.UnOpRead.the-variants as un
 use Rattle.cursor.specs.declared.Text.{Text}
-use Rattle.nodes.specs.declared.ast.Node.{Node}
 use Rattle.cursor.specs.declared.ByteRead.{ByteRead}
 use Rattle.cursor.specs.declared.ByteRead.the-variants.{Byte, NoByte}
 use Rattle.cursor.specs.declared.LineRead.{LineRead}
@@ -34,16 +32,23 @@ use Rattle.cursor.specs.declared.TextRead.{TextRead}
 use Rattle.cursor.specs.declared.TextRead.the-variants as text
 use Rattle.nodes.specs.declared.node.NodeRead.{NodeRead}
 use Rattle.nodes.specs.declared.node.NodeRead.the-variants as read
+use Rattle.nodes.specs.Extents.{extentOf}
+use Rattle.nodes.specs.declared.skip.Extent.{Extent}
+use Rattle.nodes.specs.declared.skip.Skipped.{Skipped as NodeSkipped}
+use Rattle.nodes.specs.declared.skip.Skipped.the-variants as extent
 use Rattle.chunk.specs.declared.header.Header.{Header}
 use Rattle.chunk.specs.declared.header.HeaderRead.{HeaderRead}
 use Rattle.chunk.specs.declared.header.HeaderRead.the-variants as header
 use Rattle.chunk.specs.declared.header.Skipped.{Skipped}
 use Rattle.chunk.specs.declared.header.Skipped.the-variants as skip
 
--- whatever a node that is read satisfies; a refusal satisfies all
-abbrev OnNode : (Node → Type 0) → NodeRead → Type 0
-OnNode P (read.Node n) = P n
-OnNode P (read.Refused k) = Unit {0}
+-- whatever a node that is read satisfies by its extent; a refusal satisfies all
+abbrev OnExtent : (Extent → Type 0) → NodeSkipped → Type 0
+OnExtent P (extent.Node n) = P n
+OnExtent P (extent.Refused k) = Unit {0}
+
+abbrev OnNode : (Extent → Type 0) → NodeRead → Type 0
+OnNode P r = OnExtent P (extentOf r)
 
 abbrev OnHeader : (Header → Type 0) → HeaderRead → Type 0
 OnHeader P (header.Header h) = P h
@@ -93,7 +98,7 @@ on-test P false a b h k = k
 
 module _ (s : List ℕ) where
   -- the fields' end is in the bytes, behind their start
-  abbrev In : ℕ → Node → Type 0
+  abbrev In : ℕ → Extent → Type 0
   In at n = (at ≤ n .next) × (n .next ≤ length s)
 
   fields-in : (va : Bool) (k : Kind) (at line : ℕ) → at ≤ length s → OnNode (In at) (fieldsAt s va k at line)
@@ -132,7 +137,7 @@ module _ (s : List ℕ) where
       (on-line (OnNode (In (at + 2))) _ tt (lineAt s (at + 2)) _ λ l i.
       weaker (at + 6) (at + 2) (fieldsAt s va k (at + 6) l) (omega arith) (fields-in va k (at + 6) l (omega (arith, line-inside s (at + 2) l i)))))
 
-  pub node-in : (va : Bool) (at line : ℕ) (n : Node) → nodeAt s va at line ≡ read.Node n → (at + 2 ≤ n .next) × (n .next ≤ length s)
+  pub node-in : (va : Bool) (at line : ℕ) (n : Extent) → extentOf (nodeAt s va at line) ≡ extent.Node n → (at + 2 ≤ n .next) × (n .next ≤ length s)
   node-in va at line n e = rw e at (node-all va at line)
 
   abbrev HeaderIn : Header → Type 0

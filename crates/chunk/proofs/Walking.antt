@@ -1,24 +1,28 @@
 -- One turn of each walk: what is known of a part, or of the rest, gives what holds of the whole. By cases on what was read.
 use Prim.Native.Nat.{ℕ, zero, suc, _+_, _-_, _≤_, _<_}
 use mathlib.Core.Path.{_≡_, refl, sym, ap, _∙_, subst}
-use mathlib.Core.List.{List, [], _∷_, _++_, append-nil, map}
+use mathlib.Core.List.{List, [], _∷_, _++_, append-nil}
 use mathlib.Core.Bool.{Bool}
 use native.Mathlib.Omega.{arith}
 use native.Mathlib.Nat.{add-assoc, add-zero}
 use native.Mathlib.Numerals.{add-one}
 use lib.ListN.{length, set, length-append}
 use lib.Seq.{sets}
-use Rattle.chunk.specs.Ast.{Span, Expr, leaf, one, two, many, Exprs, none, more, spans, spansOf}
+use Rattle.chunk.specs.Ast.{Span, Expr, one, two, many, Exprs, more, spans, spansOf}
 use Rattle.nodes.specs.Children.{childrenOf}
 use Rattle.nodes.specs.Nodes.{nodeAt}
-use Rattle.chunk.specs.Form.{Parsed, parsed, refused, withParsed, exprAt, exprsAt, rest, maxNesting}
+use Rattle.nodes.specs.Extents.{extentOf}
+use Rattle.chunk.specs.Form.{Parsed, parsed, refused, withParsed, withNode, exprAt, exprsAt, rest, maxNesting}
 use Rattle.chunk.specs.Walks.{placesOf, passed, Walked}
 use Rattle.nodes.specs.declared.ast.Head.{Head}
 use Rattle.nodes.specs.declared.ast.Head.the-variants as head
 use Rattle.nodes.specs.declared.ast.Node.{Node}
 use Rattle.refusals.specs.declared.Refusal.{Refusal}
 use Rattle.refusals.specs.declared.Refusal.the-variants as refusal
+use Rattle.nodes.specs.declared.node.NodeRead.{NodeRead}
 use Rattle.nodes.specs.declared.node.NodeRead.the-variants as read
+use Rattle.nodes.specs.declared.skip.Extent.{Extent}
+use Rattle.nodes.specs.declared.skip.Skipped.the-variants as extent
 use Rattle.chunk.specs.declared.form.Walk.{Walk}
 use Rattle.chunk.specs.declared.form.WalkEnd.{WalkEnd}
 use Rattle.chunk.specs.declared.form.WalkEnd.the-variants as end
@@ -147,22 +151,34 @@ module _ (f : ℕ → ℕ → Parsed Expr) (sp : Span) (n : ℕ) (s : List ℕ) 
 
 -- a node at a place, with nestings left
 module _ (b : List ℕ) (va : Bool) (at line n : ℕ) (s : List ℕ) where
-  pub expr-walked : (left : ℕ) (nd : Node) (R : WalkEnd) (S : List ℕ) → (left ≡ 0 → ⊥) → nodeAt b va at line ≡ read.Node nd
-      → Walked spansOf (exprsAt (exprAt b va (left - 1)) (childrenOf (nd .head)) (nd .next) (nd .line)) (n + 1) (set s n at) R S
+  pub expr-walked : (left : ℕ) (x : Extent) (R : WalkEnd) (S : List ℕ) → (left ≡ 0 → ⊥) → extentOf (nodeAt b va at line) ≡ extent.Node x
+      → Walked spansOf (exprsAt (exprAt b va (left - 1)) (x .children) (x .next) (x .line)) (n + 1) (set s n at) R S
       → Walked spans (exprAt b va left at line) n s R S
   unfolding exprAt
-  expr-walked zero nd R S h e w = absurd (h refl)
-  expr-walked (suc left) nd R S h e w =
-      let q : suc left - 1 ≡ left = omega arith in
-      rw e
-      (rest-walked (exprAt b va left) (record { line = nd .line; place = at; nesting = maxNesting - left }) n s R S (nd .head) (nd .next) (nd .line)
-      (rw q at w))
+  expr-walked zero x R S h e w = absurd (h refl)
+  expr-walked (suc left) x R S h e w = go (nodeAt b va at line) e
+    where
+      q : suc left - 1 ≡ left
+      q = omega arith
 
-  pub unread-walked : (left : ℕ) (k : Refusal) (S : List ℕ) → (left ≡ 0 → ⊥) → nodeAt b va at line ≡ read.Refused k
+      span : Node → Span
+      span nd = record { line = nd .line; place = at; nesting = maxNesting - left }
+
+      go : (r : NodeRead) → extentOf r ≡ extent.Node x → Walked spans (withNode r (λ nd. rest (exprAt b va left) (span nd) (nd .head) (nd .next) (nd .line))) n s R S
+      go (read.Node nd) g =
+          let is : record { children = childrenOf (nd .head); line = nd .line; next = nd .next } ≡ x = cc in
+          rest-walked (exprAt b va left) (span nd) n s R S (nd .head) (nd .next) (nd .line) (rw (q, ← is) at w)
+      go (read.Refused k) g = absurd (let y : _≡_ {A = ℕ} 0 1 = cc in omega arith)
+
+  pub unread-walked : (left : ℕ) (k : Refusal) (S : List ℕ) → (left ≡ 0 → ⊥) → extentOf (nodeAt b va at line) ≡ extent.Refused k
       → Walked spans (exprAt b va left at line) n s (end.Refused k) S
   unfolding exprAt
   unread-walked zero k S h e = absurd (h refl)
-  unread-walked (suc left) k S h e = rw e
+  unread-walked (suc left) k S h e = go (nodeAt b va at line) _ e
+    where
+      go : (r : NodeRead) (f : Node → Parsed Expr) → extentOf r ≡ extent.Refused k → Walked spans (withNode r f) n s (end.Refused k) S
+      go (read.Node nd) f g = absurd (let y : _≡_ {A = ℕ} 0 1 = cc in omega arith)
+      go (read.Refused j) f g = let is : j ≡ k = cc in ap end.Refused is
 
   pub deep-walked : (left : ℕ) (S : List ℕ) → left ≡ 0 → Walked spans (exprAt b va left at line) n s (end.Refused refusal.Nesting) S
   unfolding exprAt

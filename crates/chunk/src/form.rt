@@ -1,14 +1,13 @@
 // The whole form: header, formulas, and nothing behind them; the places of the nodes go to the scratch.
 ghost use mathlib.Core.Path.{_≡_};
-ghost use Prim.Native.Nat.{_≤_};
 ghost use lib.ListN.{length, set};
 ghost use Rattle.chunk.specs.Ast.{spans, spansOf};
 ghost use Rattle.chunk.specs.Form.{exprAt, exprsAt, formOf};
 ghost use Rattle.chunk.specs.Walks.{Walked, Inside, EndInside, checked, out};
 use crate::header;
 use crate::header::HeaderRead;
-use nodes::node;
-use nodes::node::NodeRead;
+use nodes::skip;
+use nodes::skip::Skipped;
 use refusals::Refusal;
 
 // Where a walk has come to: the place, the line of the last node, and how many nodes there were.
@@ -19,13 +18,13 @@ pub struct Walk {
 }
 
 pub enum WalkEnd {
-    Done(Walk),
     Refused(Refusal),
+    Done(Walk),
 }
 
 pub enum Form {
-    Formed(usize),
     Refused(Refusal),
+    Formed(usize),
 }
 
 // Stores a node's place, if there is room.
@@ -47,19 +46,21 @@ fn walk_expr(chunk: &[u8], scratch: &mut [u32], varargs: bool, left: usize, w: W
     }
     let at = w.at;
     let nodes = w.nodes;
-    match node::read_node(chunk, varargs, at, w.line) {
-        NodeRead::Node(n) => {
+    match skip::skip_node(chunk, varargs, at, w.line) {
+        Skipped::Node(n) => {
             put_place(scratch, nodes, at as u32);
-            let head = n.head;
-            let count = head.children();
             let next = Walk {
                 at: n.next,
                 line: n.line,
                 nodes: nodes + 1,
             };
-            walk_exprs(chunk, scratch, varargs, left - 1, count, next)
+            // half of all nodes have no children: no call for those
+            if n.children == 0 {
+                return WalkEnd::Done(next);
+            }
+            walk_exprs(chunk, scratch, varargs, left - 1, n.children, next)
         }
-        NodeRead::Refused(k) => WalkEnd::Refused(k),
+        Skipped::Refused(k) => WalkEnd::Refused(k),
     }
 }
 

@@ -15,8 +15,8 @@ pub struct Header {
 }
 
 pub enum HeaderRead {
-    Header(Header),
     Refused(Refusal),
+    Header(Header),
 }
 
 pub enum Skipped {

@@ -1,16 +1,16 @@
--- What the code's proofs cite: one step of each loop and each way out of it (bytes compared, entries searched, bytes stored from an index on), and one law for each answer of `is_entry`, `append` and `store_text`.
+-- What the code's proofs cite: one step of each loop and each way out of it (bytes compared, entries searched, bytes stored from an index on), and one law for each answer of `find`, `append` and `store_text`.
 -- Each holds by the definition, at the list's next element or at the constant's case. Assumes nothing.
-use mathlib.Core.Path.{_≡_, refl, sym, ap, _∙_}
-use mathlib.Core.Bool.{Bool, true, false}
+use mathlib.Core.Path.{_≡_, refl, sym, ap, _∙_, fun-ext}
+use mathlib.Core.Bool.{Bool, true, false, _&&_, and-true, and-false, false≢true}
 use mathlib.Core.List.{List, [], _∷_}
-use mathlib.Core.Option.{some}
-use Prim.Native.Nat.{ℕ, zero, suc, _+_, _*_, _-_, _/_, _%_, _≤_, _<_}
+use Prim.Native.Nat.{ℕ, zero, suc, _+_, _*_, _-_, _%_, _≤_, _<_, min}
+use native.Mathlib.Nat.{zero-min, min-zero}
 use native.Mathlib.Numerals.{add-one}
 use native.Mathlib.Omega.{arith}
 use lib.ListN.{length, getD, take, drop, set, drop-of-length-le, length-drop}
 use lib.Seq.{drop-cons, take-nil, take-all, sets}
 use lib.Dec.{eqb, leb}
-use borrow.Author.Tests.{eq-eqb, eqb-true, eqb-false}
+use borrow.Author.Tests.{eqb-true, eqb-false}
 use Rattle.refusals.specs.declared.Refusal.the-variants.{Pool}
 use Rattle.constants.specs.declared.Val.{Val}
 use Rattle.constants.specs.declared.Val.the-variants.{Truth}
@@ -19,118 +19,79 @@ use Rattle.constants.specs.declared.Found.{Found}
 use Rattle.constants.specs.declared.Found.the-variants.{At, Nothing}
 use Rattle.constants.specs.declared.Added.{Added}
 use Rattle.constants.specs.declared.Added.the-variants as Added-variants
-use Rattle.constants.specs.Entry.{Constant, truth, number, text, part, constantOf, entryOf, isConstant, same, holds, sameBytes}
+use Rattle.constants.specs.Entry.{Constant, truth, constantOf, entryOf, isConstant, same, holds}
 use Rattle.constants.specs.Table.{find, later, stored, storedText, append, out}
-use Rattle.constants.specs.Laws.{bytes-same, bytes-differ, find-hit, find-miss, other-kind, kindOf, same-refl}
+use Rattle.constants.specs.Laws.{find-hit, find-miss, find-at, other-kind, kindOf}
 
 -- ---- bytes compared
 
-pub bytes-length : (a b : List ℕ) → (length a ≡ length b → ⊥) → sameBytes a b ≡ false
-unfolding sameBytes
-bytes-length [] [] n = absurd (n refl)
-bytes-length [] (y ∷ b) n = refl
-bytes-length (x ∷ a) [] n = refl
-bytes-length (x ∷ a) (y ∷ b) n = rest (eqb x y) (bytes-length a b (λ e. n (ap suc e)))
-  where
-    rest : (t : Bool) → sameBytes a b ≡ false → _≡_ {A = Bool} (elim t [ true ↦ sameBytes a b | false ↦ false ]) false
-    rest true h = h
-    rest false h = refl
+-- behind both ends there is nothing
+pub tails-end : (a b : List ℕ) (k : ℕ) → length a ≤ k → length b ≤ k → drop k a ≡ drop k b
+tails-end a b k h g = rw (drop-of-length-le a h, drop-of-length-le b g)
 
-module _ (a b : List ℕ) (k : ℕ) (h : k < length a) (g : k < length b) where
-  pub same-step : getD a k 0 ≡ getD b k 0 → sameBytes (drop k a) (drop k b) ≡ sameBytes (drop (k + 1) a) (drop (k + 1) b)
-  same-step e = rw (drop-cons a k 0 h, drop-cons b k 0 g, add-one) (bytes-same _ _ _ _ e)
-
-  pub differ-step : (getD a k 0 ≡ getD b k 0 → ⊥) → sameBytes (drop k a) (drop k b) ≡ false
-  differ-step e = rw (drop-cons a k 0 h, drop-cons b k 0 g) (bytes-differ _ _ _ _ e)
-
-pub same-end : (a b : List ℕ) (k : ℕ) → length a ≤ k → length b ≤ k → sameBytes (drop k a) (drop k b) ≡ true
-unfolding sameBytes
-same-end a b k h g = rw (drop-of-length-le a h, drop-of-length-le b g)
+-- tails that are the same, and the element before each
+pub tails-more : (a b : List ℕ) (k : ℕ) → 0 < k → k ≤ length a → k ≤ length b → drop k a ≡ drop k b → getD a (k - 1) 0 ≡ getD b (k - 1) 0 → drop (k - 1) a ≡ drop (k - 1) b
+tails-more a b k m h g e q =
+    let s : suc (k - 1) ≡ k = omega arith in
+    let i : k - 1 < length a = omega arith in
+    let j : k - 1 < length b = omega arith in
+    rw (drop-cons a (k - 1) 0 i, drop-cons b (k - 1) 0 j, s, e, q)
 
 -- ---- an entry and a constant
 
-module _ (pool chunk : List ℕ) (v : Val) (k w : ℕ) where
-  -- of another kind: it isn't
-  pub holds-other : (c : Constant) → constantOf chunk v ≡ c → (k ≡ kindOf c → ⊥) → holds pool chunk v k w ≡ false
+module _ (pool chunk : List ℕ) (v : Val) where
+  -- an entry that is a constant is of its kind, and then its value decides
+  pub holds-kind : (c : Constant) → constantOf chunk v ≡ c → (k w : ℕ) → holds pool chunk v k w ≡ (isConstant (entryOf pool (kindOf c) w) c && eqb k (kindOf c))
   unfolding holds
-  holds-other c e n = rw e (other-kind pool k w c n)
-
-  -- a constant that is its kind alone
-  pub holds-bare : (c : Constant) → constantOf chunk v ≡ c → entryOf pool (kindOf c) w ≡ some c → holds pool chunk v k w ≡ eqb k (kindOf c)
-  unfolding holds
-  holds-bare c e h = rw e (by (eqb k (kindOf c)) refl)
+  holds-kind c e k w = rw e (by (eqb k (kindOf c)) refl)
     where
-      by : (t : Bool) → eqb k (kindOf c) ≡ t → isConstant (entryOf pool k w) c ≡ eqb k (kindOf c)
-      by true q = rw (eqb-true k (kindOf c) q, h) (same-refl c ∙ sym (eq-eqb (kindOf c) (kindOf c) refl))
-      by false q = other-kind pool k w c (eqb-false k (kindOf c) q) ∙ sym q
+      by : (t : Bool) → eqb k (kindOf c) ≡ t → isConstant (entryOf pool k w) c ≡ (isConstant (entryOf pool (kindOf c) w) c && eqb k (kindOf c))
+      by true q = rw (q, and-true, eqb-true k (kindOf c) q)
+      by false q = rw (q, and-false) (other-kind pool k w c (eqb-false k (kindOf c) q))
 
-  pub holds-truth : (b : Bool) → constantOf chunk v ≡ truth b → holds pool chunk v k w ≡ eqb k (kindOf (truth b))
-  unfolding entryOf
-  holds-truth true e = holds-bare (truth true) e refl
-  holds-truth false e = holds-bare (truth false) e refl
-
-  pub holds-number : (b : ℕ) → constantOf chunk v ≡ number b → k ≡ 3 → holds pool chunk v k w ≡ eqb w b
-  unfolding holds entryOf same
-  holds-number b e q = rw (e, q)
-
-  pub holds-text : (l a b : List ℕ) → constantOf chunk v ≡ text l → k ≡ 4 → part pool (w / 65536) (w % 65536) ≡ a → l ≡ b → holds pool chunk v k w ≡ sameBytes a b
-  unfolding holds entryOf same
-  holds-text l a b e q f g = rw (e, q, f, g)
+  -- a truth value is its kind alone
+  pub holds-truth : (b : Bool) {t : ℕ} → constantOf chunk v ≡ truth b → kindOf (truth b) ≡ t → (k w : ℕ) → holds pool chunk v k w ≡ eqb k t
+  unfolding entryOf same
+  holds-truth true e q k w = holds-kind (truth true) e k w ∙ ap (eqb k) q
+  holds-truth false e q k w = holds-kind (truth false) e k w ∙ ap (eqb k) q
 
 -- ---- entries searched
 
--- i places further on
-abbrev pub further : ℕ → Found → Found
-further i (At j) = At (i + j)
-further i Nothing = Nothing
+-- no entry below i meets the test
+abbrev pub Passed : (ℕ → ℕ → Bool) → List ℕ → List ℕ → ℕ → Type 0
+Passed p ks ws i = (j : ℕ) → j < i → p (getD ks j 0) (getD ws j 0) ≡ false
 
-further-zero : (f : Found) → f ≡ further 0 f
-further-zero (At j) = ap At (omega arith)
-further-zero Nothing = refl
+module _ (p : ℕ → ℕ → Bool) where
+  -- the two ways out of a loop over the entries
+  pub found-first : (n : ℕ) (ks ws : List ℕ) (i : ℕ) → i < n → n ≤ length ks → n ≤ length ws → Passed p ks ws i → p (getD ks i 0) (getD ws i 0) ≡ true → find p n ks ws ≡ At i
+  found-first zero ks ws i m h g passed e = absurd (omega arith)
+  found-first (suc n) [] ws i m h g passed e = absurd (omega arith)
+  found-first (suc n) (k ∷ ks) [] i m h g passed e = absurd (omega arith)
+  found-first (suc n) (k ∷ ks) (w ∷ ws) zero m h g passed e = find-hit p n k w ks ws e
+  found-first (suc n) (k ∷ ks) (w ∷ ws) (suc i) m h g passed e =
+      find-miss p n k w ks ws (passed 0 (omega arith)) ∙ ap later (found-first n ks ws i (omega arith) (omega arith) (omega arith) (λ j l. passed (suc j) (omega arith)) e)
 
-further-later : (i : ℕ) (f : Found) → further i (later f) ≡ further (suc i) f
-further-later i (At j) = ap At (omega arith)
-further-later i Nothing = refl
+  pub found-nowhere : (n : ℕ) (ks ws : List ℕ) (i : ℕ) → n ≤ i → Passed p ks ws i → find p n ks ws ≡ Nothing
+  found-nowhere n ks ws i m passed = answer (find p n ks ws) refl
+    where
+      answer : (f : Found) → find p n ks ws ≡ f → f ≡ Nothing
+      answer (At j) e = let at = find-at p n ks ws j e in absurd (false≢true (sym (passed j (omega arith)) ∙ at .meets))
+      answer Nothing e = refl
 
-find-no-kinds : (p : ℕ → ℕ → Bool) (n : ℕ) (ws : List ℕ) → find p n [] ws ≡ Nothing
-unfolding find
-find-no-kinds p zero ws = refl
-find-no-kinds p (suc n) ws = refl
-
-find-no-values : (p : ℕ → ℕ → Bool) (n : ℕ) (ks : List ℕ) → find p n ks [] ≡ Nothing
-unfolding find
-find-no-values p zero ks = refl
-find-no-values p (suc n) [] = refl
-find-no-values p (suc n) (k ∷ ks) = refl
-
--- what is left of the search at entry i
-abbrev pub rest : (ℕ → ℕ → Bool) → ℕ → List ℕ → List ℕ → ℕ → Found
-rest p n ks ws i = further i (find p (n - i) (drop i ks) (drop i ws))
-
-module _ (p : ℕ → ℕ → Bool) (n : ℕ) (ks ws : List ℕ) where
-  pub search-start : find p n ks ws ≡ rest p n ks ws 0
-  search-start = let z : n - 0 ≡ n = omega arith in rw z (further-zero (find p n ks ws))
-
-  pub search-end : (i : ℕ) → n ≤ i → rest p n ks ws i ≡ Nothing
+  -- a search goes no further than the shorter list
+  find-shorter : (count : ℕ) (ks ws : List ℕ) → find p count ks ws ≡ find p (min count (min (length ks) (length ws))) ks ws
   unfolding find
-  search-end i h = let z : n - i ≡ 0 = omega arith in rw z
+  find-shorter zero ks ws = rw zero-min
+  find-shorter (suc n) [] ws = rw (zero-min, min-zero)
+  find-shorter (suc n) (k ∷ ks) [] = rw (min-zero, min-zero)
+  find-shorter (suc n) (k ∷ ks) (w ∷ ws) =
+      let e : min (suc n) (min (suc (length ks)) (suc (length ws))) ≡ suc (min n (min (length ks) (length ws))) = omega arith in
+      rw e (ap (λ f. elim (p k w) [ true ↦ At 0 | false ↦ later f ]) (find-shorter n ks ws))
 
-  pub search-no-kinds : (i : ℕ) → length ks ≤ i → rest p n ks ws i ≡ Nothing
-  search-no-kinds i h = rw (drop-of-length-le ks h, find-no-kinds)
-
-  pub search-no-values : (i : ℕ) → length ws ≤ i → rest p n ks ws i ≡ Nothing
-  search-no-values i h = rw (drop-of-length-le ws h, find-no-values)
-
-  module _ (i : ℕ) (m : i < n) (h : i < length ks) (g : i < length ws) {b : Bool} (test : p (getD ks i 0) (getD ws i 0) ≡ b) where
-    pub search-hit : b ≡ true → rest p n ks ws i ≡ At i
-    search-hit e =
-        let s : n - i ≡ suc (n - (i + 1)) = omega arith in
-        rw (drop-cons ks i 0 h, drop-cons ws i 0 g, s, find-hit p _ _ _ _ _ (test ∙ e)) (ap At (omega arith))
-
-    pub search-miss : b ≡ false → rest p n ks ws i ≡ rest p n ks ws (i + 1)
-    search-miss e =
-        let s : n - i ≡ suc (n - (i + 1)) = omega arith in
-        rw (drop-cons ks i 0 h, drop-cons ws i 0 g, s, find-miss p _ _ _ _ _ (test ∙ e), add-one) (further-later i (find p (n - suc i) (drop (suc i) ks) (drop (suc i) ws)))
+-- another test that tells the same finds the same
+pub found-by : (p q : ℕ → ℕ → Bool) (count m n : ℕ) (ks ws : List ℕ) {f : Found} → min (length ks) (length ws) ≡ m → min count m ≡ n
+    → ((k w : ℕ) → p k w ≡ q k w) → find q n ks ws ≡ f → find p count ks ws ≡ f
+found-by p q count m n ks ws shorter least alike e = rw (fun-ext (λ k. fun-ext (alike k)), find-shorter q count ks ws, shorter, least) e
 
 -- ---- bytes stored
 

@@ -21,13 +21,17 @@ use Rattle.instructions.specs.Limits.{maxConstants}
 use Rattle.constants.specs.Entry.{Constant, nil, truth, number, text, constantOf, entryOf, sameBytes, sameTruth, same, isConstant, holds}
 use Rattle.constants.specs.Table.{find, later, full, out, append, added}
 
+unless-true : (t : Bool) → (t ≡ true → ⊥) → t ≡ false
+unless-true true n = absurd (n refl)
+unless-true false n = refl
+
 -- ---- the same bytes
 
-pub bytes-same : (x y : ℕ) (a b : List ℕ) → x ≡ y → sameBytes (x ∷ a) (y ∷ b) ≡ sameBytes a b
+bytes-same : (x y : ℕ) (a b : List ℕ) → x ≡ y → sameBytes (x ∷ a) (y ∷ b) ≡ sameBytes a b
 unfolding sameBytes
 bytes-same x y a b e = rw (eq-eqb x y e, sameBytes)
 
-pub bytes-differ : (x y : ℕ) (a b : List ℕ) → (x ≡ y → ⊥) → sameBytes (x ∷ a) (y ∷ b) ≡ false
+bytes-differ : (x y : ℕ) (a b : List ℕ) → (x ≡ y → ⊥) → sameBytes (x ∷ a) (y ∷ b) ≡ false
 unfolding sameBytes
 bytes-differ x y a b e = rw (ne-eqb x y e, sameBytes)
 
@@ -44,6 +48,9 @@ sameBytes-true (x ∷ a) (y ∷ b) h = head (eqb x y) refl (sameBytes-true a b)
         let q : a ≡ b = tail (sym (bytes-same x y a b p) ∙ h) in
         cc
     head false e tail = absurd (false≢true (sym (bytes-differ x y a b (eqb-false x y e)) ∙ h))
+
+pub sameBytes-false : (a b : List ℕ) → (a ≡ b → ⊥) → sameBytes a b ≡ false
+sameBytes-false a b n = unless-true (sameBytes a b) (λ e. n (sameBytes-true a b e))
 
 pub sameBytes-refl : (a : List ℕ) → sameBytes a a ≡ true
 unfolding sameBytes
@@ -120,11 +127,7 @@ module _ (pool : List ℕ) (k w : ℕ) (c : Constant) where
 
   -- an entry of another kind isn't this constant
   pub other-kind : (k ≡ kindOf c → ⊥) → isConstant (entryOf pool k w) c ≡ false
-  other-kind n = answer (isConstant (entryOf pool k w) c) refl
-    where
-      answer : (t : Bool) → isConstant (entryOf pool k w) c ≡ t → t ≡ false
-      answer true e = absurd (n (entry-kind (isConstant-true (entryOf pool k w) c e)))
-      answer false e = refl
+  other-kind n = unless-true _ (λ e. n (entry-kind (isConstant-true (entryOf pool k w) c e)))
 
 module _ (pool chunk : List ℕ) (v : Val) (k w : ℕ) where
   pub holds-true : holds pool chunk v k w ≡ true → entryOf pool k w ≡ some (constantOf chunk v)

@@ -1,8 +1,8 @@
 // The constant table over lent kinds, values and pool: the search, and adding what is not there yet (rilua's value.rs, proto.rs and `add_constant`, `string_constant`, `nil_constant`).
 ghost use mathlib.Core.Path.{_≡_};
 ghost use mathlib.Core.List.{List};
-ghost use mathlib.Core.Bool.{_||_};
-ghost use Prim.Native.Nat.{ℕ, _+_, _*_, _%_, _≤_, _<_};
+ghost use mathlib.Core.Bool.{_||_, _&&_};
+ghost use Prim.Native.Nat.{ℕ, _+_, _*_, _/_, _%_, _≤_, _<_, min};
 ghost use lib.ListN.{length};
 ghost use lib.Seq.{sets};
 ghost use lib.Dec.{eqb, leb};
@@ -32,8 +32,8 @@ pub enum Found {
 }
 
 pub enum Added {
-    At(usize, Table),
     Refused(Refusal),
+    At(usize, Table),
 }
 
 // The part of a slice of `len` from `start`, as far as it goes.
@@ -51,27 +51,21 @@ pub fn part(s: &[u8], start: usize, len: usize) -> &[u8]
     &s[start..end]
 }
 
+// From the end, where names made by counting differ.
 pub fn same_bytes(a: &[u8], b: &[u8]) -> bool
     ensures { λ r. ⌜ sameBytes (now (a .entry)) (now (b .entry)) ≡ r ⌝ }
 {
     if a.len() != b.len() {
         return false;
     }
-    let mut k = 0;
-    while k < a.len() {
+    let mut k = a.len();
+    while 0 < k {
+        k -= 1;
         if a[k] != b[k] {
             return false;
         }
-        k += 1;
     }
     true
-}
-
-// Numbers are told apart by their bits: 0.0 and -0.0 are two constants, and a NaN is itself.
-fn same_number(a: u64, b: u64) -> bool
-    ensures { λ r. ⌜ eqb a b ≡ r ⌝ }
-{
-    a == b
 }
 
 // The kind of a truth value's entry.
@@ -81,48 +75,82 @@ fn truth_kind(b: bool) -> u8
     if b { 2 } else { 1 }
 }
 
-// Whether the entry of this kind and value is the constant v.
-fn is_entry(kind: u8, value: u64, pool: &[u8], chunk: &[u8], v: Val) -> bool
-    ensures { λ r. ⌜ holds (now (pool .entry)) (now (chunk .entry)) v kind value ≡ r ⌝ }
+fn least(a: usize, b: usize) -> usize
+    ensures { λ r. ⌜ min a b ≡ r ⌝ }
 {
-    match v {
-        Val::Nil => kind == 0,
-        Val::Truth(b) => kind == truth_kind(b),
-        Val::Number { value: _, bits } => {
-            if kind != 3 {
-                return false;
-            }
-            same_number(value, bits)
-        }
-        Val::Text { start, len } => {
-            if kind != 4 {
-                return false;
-            }
-            let at = (value / 65536) as usize;
-            let n = (value % 65536) as usize;
-            same_bytes(part(pool, at, n), part(chunk, start, len))
-        }
-    }
+    if a < b { a } else { b }
 }
 
-// The first of the first `count` entries that is the constant v. What stands at or above the count is never looked at.
-pub fn find(kinds: &[u8], values: &[u64], pool: &[u8], chunk: &[u8], count: usize, v: Val) -> Found
-    ensures { λ r. ⌜ findIn (holds (now (pool .entry)) (now (chunk .entry)) v) count (now (kinds .entry)) (now (values .entry)) ≡ r ⌝ }
+// Of the first `n` entries the first of this kind, whatever its value.
+fn find_kind(kinds: &[u8], n: usize, kind: u8) -> Found
+    requires { ⌜ n ≤ length (now kinds) ⌝ }
+    ensures { λ r. ⌜ ((ws : List ℕ) → n ≤ length ws → findIn (λ k w. eqb k kind) n (now (kinds .entry)) ws ≡ r) ⌝ }
+{
+    let mut at = 0;
+    while at < n {
+        if kinds[at] == kind {
+            return Found::At(at);
+        }
+        at += 1;
+    }
+    Found::Nothing
+}
+
+// Of the first `n` entries the first number of these bits: 0.0 and -0.0 are two constants, and a NaN is itself.
+fn find_number(kinds: &[u8], values: &[u64], n: usize, bits: u64) -> Found
+    requires { ⌜ (n ≤ length (now kinds)) × (n ≤ length (now values)) ⌝ }
+    ensures { λ r. ⌜ findIn (λ k w. eqb w bits && eqb k 3) n (now (kinds .entry)) (now (values .entry)) ≡ r ⌝ }
 {
     let mut i = 0;
-    while i < count {
-        if kinds.len() <= i {
-            return Found::Nothing;
-        }
-        if values.len() <= i {
-            return Found::Nothing;
-        }
-        if is_entry(kinds[i], values[i], pool, chunk, v) {
-            return Found::At(i);
+    while i < n {
+        if values[i] == bits {
+            if kinds[i] == 3 {
+                return Found::At(i);
+            }
         }
         i += 1;
     }
     Found::Nothing
+}
+
+// Whether a text's entry of this value is `text`.
+fn is_text(value: u64, pool: &[u8], text: &[u8]) -> bool
+    ensures { λ r. ⌜ sameBytes (partOf (now (pool .entry)) (value / 65536) (value % 65536)) (now (text .entry)) ≡ r ⌝ }
+{
+    let at = (value / 65536) as usize;
+    let n = (value % 65536) as usize;
+    same_bytes(part(pool, at, n), text)
+}
+
+// Of the first `n` entries the first that is `text`.
+fn find_text(kinds: &[u8], values: &[u64], pool: &[u8], n: usize, text: &[u8]) -> Found
+    requires { ⌜ (n ≤ length (now kinds)) × (n ≤ length (now values)) ⌝ }
+    ensures { λ r. ⌜ findIn (λ k w. sameBytes (partOf (now (pool .entry)) (w / 65536) (w % 65536)) (now (text .entry)) && eqb k 4) n (now (kinds .entry)) (now (values .entry)) ≡ r ⌝ }
+{
+    let mut i = 0;
+    while i < n {
+        if kinds[i] == 4 {
+            if is_text(values[i], pool, text) {
+                return Found::At(i);
+            }
+        }
+        i += 1;
+    }
+    Found::Nothing
+}
+
+// The first of the first `count` entries that is the constant v. What stands at or above the count is never looked at.
+// A loop for each kind of constant, so that none asks at each entry what v is.
+pub fn find(kinds: &[u8], values: &[u64], pool: &[u8], chunk: &[u8], count: usize, v: Val) -> Found
+    ensures { λ r. ⌜ findIn (holds (now (pool .entry)) (now (chunk .entry)) v) count (now (kinds .entry)) (now (values .entry)) ≡ r ⌝ }
+{
+    let n = least(count, least(kinds.len(), values.len()));
+    match v {
+        Val::Nil => find_kind(kinds, n, 0),
+        Val::Truth(b) => find_kind(kinds, n, truth_kind(b)),
+        Val::Number { value: _, bits } => find_number(kinds, values, n, bits),
+        Val::Text { start, len } => find_text(kinds, values, pool, n, part(chunk, start, len)),
+    }
 }
 
 // Stores the bytes of `from` in `to` from `at` on.

@@ -11,23 +11,23 @@ pub struct Text {
 }
 
 pub enum ByteRead {
-    Byte(u8),
     NoByte,
+    Byte(u8),
 }
 
 pub enum LineRead {
-    Line(u32),
     NoLine,
+    Line(u32),
 }
 
 pub enum BitsRead {
-    Bits(u64),
     NoBits,
+    Bits(u64),
 }
 
 pub enum TextRead {
-    Text(Text),
     NoText,
+    Text(Text),
 }
 
 fn wide(b: u8) -> u64

@@ -18,7 +18,6 @@ ghost use Rattle.discharge.specs.Kinds.{put, give, over-of, load-yes, lo
 ghost use Rattle.discharge.specs.Wants.{only-value, keeps-open, is-value, is-plain, wants-operand, wanted, reg-of, landing-of, there-of, restIs, spotIs};
 ghost use Rattle.discharge.specs.declared.Want.the-variants.{Next, Rk};
 use constants::Val;
-use emission::add_constant;
 use emission::alloc_reg;
 use emission::code_label;
 use emission::emit_abc;
@@ -27,6 +26,7 @@ use emission::emit_jump;
 use emission::emit_nil;
 use emission::free_reg;
 use emission::get_label;
+use emission::keep;
 use emission::patch_to_here;
 use instructions::Instruction;
 use instructions::OpCode;
@@ -198,7 +198,11 @@ pub fn own_constant(
     ensures { λ r. ⌜ ((cs ls : List ℕ) → add-constant [] v st (bufs cs ls (now (kinds .entry)) (now (values .entry)) (now (pool .entry))) ≡ givenIs r (bufs cs ls (now (kinds .exit)) (now (values .exit)) (now (pool .exit)))) ⌝ }
 {
     let none = b"";
-    add_constant(none, kinds, values, pool, st, v)
+    let table = st.table;
+    keep(
+        st,
+        constants::add_constant(kinds, values, pool, none, table, v),
+    )
 }
 
 pub fn number_constant(
@@ -759,6 +763,7 @@ fn bring_value(
 }
 
 // A descriptor becomes what is wanted. No constant is needed where only a value is wanted.
+// It is built anew first: of one that was passed on whole the machine would copy the bytes between its fields too, and wait for them.
 pub fn bring(
     code: &mut [u32],
     lines: &mut [u32],
@@ -771,7 +776,8 @@ pub fn bring(
 ) -> Described
     ensures { λ r. ⌜ (wanted want e st (bufs (now (code .entry)) (now (lines .entry)) (now (kinds .entry)) (now (values .entry)) (now (pool .entry))) ≡ describedIs r (bufs (now (code .exit)) (now (lines .exit)) (now (kinds .exit)) (now (values .exit)) (now (pool .exit)))) × (only-value want ≡ true → (ks vs p : List ℕ) → discharge-vars e st (bufs (now (code .entry)) (now (lines .entry)) ks vs p) ≡ describedIs r (bufs (now (code .exit)) (now (lines .exit)) ks vs p)) ⌝ }
 {
-    let answer = discharge_kind(code, lines, st, e);
+    let anew = with_jumps(e, e.t, e.f);
+    let answer = discharge_kind(code, lines, st, anew);
     match answer {
         Described::Done(s, d) => {
             if only_value(want) {

@@ -17,18 +17,27 @@ use Rattle.instructions.specs.Word.{bOf, abcOf, aBxOf, aSbxOf, setBOf}
 use Rattle.instructions.specs.declared.OpCode.{OpCode}
 use Rattle.instructions.specs.declared.OpCode.the-variants.{LoadBool, LoadNil, Jmp}
 use Rattle.constants.specs.Table.{added, out}
-use Rattle.constants.specs.declared.Table.{Table}
 use Rattle.constants.specs.declared.Val.{Val}
-use Rattle.constants.specs.declared.Added.the-variants as added-as
+use Rattle.constants.specs.declared.Added.{Added}
 use Rattle.model.specs.declared.State.{State}
 use Rattle.model.specs.Steps.{Buffers, Step, Result, done, refused, andThen, change, change-words, skip, refuse}
 use Rattle.model.specs.Jumps.{word, concat-jumps, linked, remove-values, patch-list-aux}
-use Rattle.model.specs.Emission.{with-pc, with-free, with-frame, with-jpc, discharge-jpc, no-room, store, push, emit-at, emit, emit-abc, concat, emit-jump, patch-to-here, get-label, code-label, adjoins, load-nil, emit-nil, check-stack, reserve-regs, alloc-reg, free-reg, with-table, add-constant}
-use Rattle.emission.specs.Parts.{bufs, labelled}
+use Rattle.model.specs.Emission.{with-pc, with-free, with-frame, with-jpc, discharge-jpc, no-room, store, push, emit-at, emit, emit-abc, concat, emit-jump, patch-to-here, get-label, code-label, adjoins, load-nil, emit-nil, check-stack, reserve-regs, alloc-reg, free-reg, keep, add-constant}
+use Rattle.emission.specs.Parts.{bufs, labelled, freed-to}
 
 -- if then else
 abbrev pub branch : {A : Type 0} → Bool → Step A → Step A → Step A
 branch b x y = elim b [ true ↦ x | false ↦ y ]
+
+-- a step whose answer is known goes on, or is refused
+module _ {A B : Type 0} (f : A → Step B) where
+  pub then-done : {x : Result A} {a : A} {t : State} {k : Buffers} → x ≡ done a t k → andThen x f ≡ f a t k
+  unfolding andThen
+  then-done h = ap (λ (y : Result A). andThen y f) h
+
+  pub then-refused : {x : Result A} {r : Refusal} {k : Buffers} → x ≡ refused r k → andThen x f ≡ refused r k
+  unfolding andThen
+  then-refused h = ap (λ (y : Result A). andThen y f) h
 
 -- ---- of a value only what fits its field counts
 
@@ -207,27 +216,31 @@ module _ (s : State) (m : Buffers) where
   unfolding alloc-reg andThen
   alloc-refused e = simp (alloc-reg, e)
 
-module _ (r : ℕ) (s : State) (m : Buffers) where
+module _ (active free r : ℕ) where
   abbrev topmost : Bool
-  topmost = leb (s .active) r && (ltb r bitRk && eqb (r + 1) (s .free))
+  topmost = leb active r && (ltb r bitRk && eqb (r + 1) free)
 
-  pub free-freed : topmost ≡ true → free-reg r s m ≡ done tt (with-free r s) m
-  unfolding free-reg andThen
-  free-freed h = ap (λ (b : Bool). branch b (change (with-free r)) skip s m) h
+  abbrev chosen : Bool → ℕ
+  chosen b = elim b [ true ↦ r | false ↦ free ]
 
-  pub free-kept : topmost ≡ false → free-reg r s m ≡ done tt s m
-  unfolding free-reg andThen
-  free-kept h = ap (λ (b : Bool). branch b (change (with-free r)) skip s m) h
+  pub freed-own : topmost ≡ true → freed-to active free r ≡ r
+  freed-own h = ap chosen h
+
+  pub freed-none : topmost ≡ false → freed-to active free r ≡ free
+  freed-none h = ap chosen h
+
+pub free-to : (r : ℕ) (s : State) (m : Buffers) → free-reg r s m ≡ done tt (with-free (freed-to (s .active) (s .free) r) s) m
+unfolding free-reg andThen
+free-to r s m = go (topmost (s .active) (s .free) r)
+  where
+    go : (b : Bool) → branch b (change (with-free r)) skip s m ≡ done tt (with-free (chosen (s .active) (s .free) r b) s) m
+    go true = refl
+    go false = refl
 
 -- ---- constants
 
-module _ (chunk : List ℕ) (v : Val) (s : State) (cs ls ks vs p : List ℕ) where
-  pub constant-at : {i : ℕ} {t : Table} {kb vb pb : List ℕ} → added chunk (s .table) v ks vs p ≡ out (added-as.At i t) kb vb pb →
-      add-constant chunk v s (bufs cs ls ks vs p) ≡ done i (with-table t s) (bufs cs ls kb vb pb)
-  unfolding add-constant
-  constant-at h = simp (add-constant, h)
-
-  pub constant-refused : {k : Refusal} {kb vb pb : List ℕ} → added chunk (s .table) v ks vs p ≡ out (added-as.Refused k) kb vb pb →
-      add-constant chunk v s (bufs cs ls ks vs p) ≡ refused k (bufs cs ls kb vb pb)
-  unfolding add-constant
-  constant-refused h = simp (add-constant, h)
+-- what the table answers is kept
+pub constant-kept : (chunk : List ℕ) (v : Val) (s : State) (cs ls ks vs p : List ℕ) {a : Added} {kb vb pb : List ℕ} → added chunk (s .table) v ks vs p ≡ out a kb vb pb →
+    add-constant chunk v s (bufs cs ls ks vs p) ≡ keep a s (bufs cs ls kb vb pb)
+unfolding add-constant
+constant-kept chunk v s cs ls ks vs p h = simp (add-constant, h)

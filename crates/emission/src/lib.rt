@@ -4,8 +4,8 @@ ghost use mathlib.Core.List.{List};
 ghost use mathlib.Core.Path.{_≡_};
 ghost use Prim.Native.Nat.{ℕ, _+_};
 ghost use Rattle.model.specs.Steps.{Buffers, done, steppedIs, givenIs};
-ghost use Rattle.model.specs.Emission.{with-pc, with-free, with-frame, with-jpc, with-label, discharge-jpc, push as pushOf, emit-at, emit as emitOf, emit-abc, emit-abx, emit-jump, patch-to-here, get-label, code-label, adjoins as adjoinsOf, load-nil, emit-nil, check-stack, reserve-regs, alloc-reg, free-reg, with-table, add-constant};
-ghost use Rattle.emission.specs.Parts.{bufs};
+ghost use Rattle.model.specs.Emission.{with-pc, with-free, with-frame, with-jpc, with-label, discharge-jpc, push as pushOf, emit-at, emit as emitOf, emit-abc, emit-abx, emit-jump, patch-to-here, get-label, code-label, adjoins as adjoinsOf, load-nil, emit-nil, check-stack, reserve-regs, alloc-reg, free-reg, with-table, keep as keepOf, add-constant};
+ghost use Rattle.emission.specs.Parts.{bufs, freed-to};
 use constants::Added;
 use constants::Table;
 use constants::Val;
@@ -296,6 +296,16 @@ pub fn emit_nil(code: &mut [u32], lines: &mut [u32], st: State, from: usize) -> 
 
 // ---- constants
 
+// The state with the table that was answered. The table's own functions take no state: copying one at each call took a tenth of the time.
+pub fn keep(st: State, answer: Added) -> Given
+    ensures { λ r. ⌜ ((m : Buffers) → keepOf answer st m ≡ givenIs r m) ⌝ }
+{
+    match answer {
+        Added::At(i, t) => Given::Done(with_table(st, t), i),
+        Added::Refused(k) => Given::Refused(k),
+    }
+}
+
 // The index of a constant; a text's bytes stand in the chunk.
 pub fn add_constant(
     chunk: &[u8],
@@ -308,11 +318,10 @@ pub fn add_constant(
     ensures { λ r. ⌜ ((cs ls : List ℕ) → add-constant (now (chunk .entry)) v st (bufs cs ls (now (kinds .entry)) (now (values .entry)) (now (pool .entry))) ≡ givenIs r (bufs cs ls (now (kinds .exit)) (now (values .exit)) (now (pool .exit)))) ⌝ }
 {
     let table = st.table;
-    let answer = constants::add_constant(kinds, values, pool, chunk, table, v);
-    match answer {
-        Added::At(i, t) => Given::Done(with_table(st, t), i),
-        Added::Refused(k) => Given::Refused(k),
-    }
+    keep(
+        st,
+        constants::add_constant(kinds, values, pool, chunk, table, v),
+    )
 }
 
 // ---- registers
@@ -354,18 +363,25 @@ pub fn alloc_reg(st: State) -> Given
     }
 }
 
-// The topmost temporary only.
+// The next free register once r is free again: the topmost temporary only.
+fn freed(active: usize, free: usize, r: usize) -> usize
+    ensures { λ n. ⌜ freed-to active free r ≡ n ⌝ }
+{
+    if r < active {
+        return free;
+    }
+    if 256 <= r {
+        return free;
+    }
+    if r + 1 == free {
+        return r;
+    }
+    free
+}
+
+// It decides on a number and then makes one state: a state on each way would be a copy on each way.
 pub fn free_reg(st: State, r: usize) -> State
     ensures { λ s. ⌜ ((m : Buffers) → free-reg r st m ≡ done tt s m) ⌝ }
 {
-    if r < st.active {
-        return st;
-    }
-    if 256 <= r {
-        return st;
-    }
-    if r + 1 == st.free {
-        return with_free(st, r);
-    }
-    st
+    with_free(st, freed(st.active, st.free, r))
 }

@@ -18,7 +18,8 @@ use Rattle.model.specs.Steps.{Buffers, Step, Result, refused, andThen, describe
 use Rattle.model.specs.Discharge.{discharge-vars, exp2anyreg}
 use Rattle.model.specs.Operators.{before-right, after-right, code-unop}
 use Rattle.model.specs.Expressions.{set-indexed, after-one, between, after-two}
-use Rattle.calls.specs.Laws.{then-done, then-refused, keyed}
+use Rattle.emission.specs.Laws.{then-done, then-refused}
+use Rattle.calls.specs.Laws.{keyed}
 use Rattle.expressions.specs.Parts.{first-of}
 
 -- an answer of a descriptor goes on, or is refused

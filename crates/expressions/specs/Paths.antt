@@ -22,7 +22,7 @@ use Rattle.model.specs.Steps.{Buffers, Step, Result, done, refused, andThen, _>
 use Rattle.model.specs.Emission.{with-place}
 use Rattle.model.specs.Discharge.{exp2nextreg}
 use Rattle.model.specs.Expressions.{closed-call, last-argument, compile-funcargs, leaf-expr, after-two, compile-head, compile-node, compile-expr}
-use Rattle.calls.specs.Laws.{then-done, then-refused}
+use Rattle.emission.specs.Laws.{then-done, then-refused}
 use Rattle.expressions.specs.Parts.{first-of}
 
 -- ---- an expression

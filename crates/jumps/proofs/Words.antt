@@ -1,7 +1,9 @@
 -- `retest` by its three cases. Of a register only what fits the field A counts. Assumes nothing.
 use Prim.Native.Nat.{ℕ, _%_}
+use mathlib.Core.Bool.{or-true}
 use mathlib.Core.Path.{_≡_, sym}
 use native.Mathlib.Nat.{mod-mod}
+use lib.Dec.{eqb}
 use borrow.Author.Tests.{eq-eqb, ne-eqb}
 use Rattle.instructions.specs.Limits.{aSize, noReg}
 use Rattle.instructions.specs.Field.{setAt}
@@ -14,14 +16,14 @@ unfolding setAt
 set-a-mod w v = rw (mod-mod v aSize)
 
 module _ (reg w : ℕ) where
+  pub retest-own : reg ≡ bOf w → retest reg w ≡ abcOf Test (bOf w) 0 (cOf w)
+  unfolding retest
+  retest-own e = simp (retest, eq-eqb _ _ e, or-true (eqb reg noReg))
+
   pub retest-none : reg ≡ noReg → retest reg w ≡ abcOf Test (bOf w) 0 (cOf w)
   unfolding retest
   retest-none e = simp (retest, eq-eqb _ _ e)
 
-  pub retest-own : (reg ≡ noReg → ⊥) → reg ≡ bOf w → retest reg w ≡ abcOf Test (bOf w) 0 (cOf w)
+  pub retest-other : (reg ≡ bOf w → ⊥) → (reg ≡ noReg → ⊥) → retest reg w ≡ setAOf w (reg % aSize)
   unfolding retest
-  retest-own h e = simp (retest, ne-eqb _ _ h, eq-eqb _ _ e)
-
-  pub retest-other : (reg ≡ noReg → ⊥) → (reg ≡ bOf w → ⊥) → retest reg w ≡ setAOf w (reg % aSize)
-  unfolding retest
-  retest-other h e = simp (retest, ne-eqb _ _ h, ne-eqb _ _ e) (sym (set-a-mod w reg))
+  retest-other e h = simp (retest, ne-eqb _ _ h, ne-eqb _ _ e) (sym (set-a-mod w reg))

@@ -180,12 +180,12 @@ fn test_only(w: u32) -> u32
 fn retest(reg: usize, w: u32) -> u32
     ensures { λ r. ⌜ retestOf reg w ≡ r ⌝ }
 {
-    if reg == 255 {
-        return test_only(w);
-    }
     let i = Instruction { raw: w };
     let own = i.b() as usize;
     if reg == own {
+        return test_only(w);
+    }
+    if reg == 255 {
         return test_only(w);
     }
     i.set_a((reg % 256) as u32).raw

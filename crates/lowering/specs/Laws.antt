@@ -22,7 +22,7 @@ use Rattle.model.specs.Expressions.{compile-expr}
 use Rattle.model.specs.Claims.{sizes}
 use Rattle.model.specs.Lowering.{cleared, start, formulas, lower-chunk, out, ended, with-header}
 use Rattle.emission.specs.Parts.{bufs}
-use Rattle.calls.specs.Laws.{then-done, then-refused}
+use Rattle.emission.specs.Laws.{then-done, then-refused}
 use Rattle.lowering.specs.Parts.{returning, from-header}
 
 module _ (f : Step ExprContext) (n : ℕ) (s : State) (m : Buffers) where

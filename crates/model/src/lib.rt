@@ -90,20 +90,20 @@ pub struct State {
 
 // A step that only changes the state.
 pub enum Stepped {
-    Done(State),
     Refused(Refusal),
+    Done(State),
 }
 
 // A step that also gives a number: a word, a register, a constant or a jump list.
 pub enum Given {
-    Done(State, usize),
     Refused(Refusal),
+    Done(State, usize),
 }
 
 // A step that gives a descriptor.
 pub enum Described {
-    Done(State, ExprContext),
     Refused(Refusal),
+    Done(State, ExprContext),
 }
 
 // What a lowering gives: the counts of words, constants and text bytes, and the frame.
@@ -116,6 +116,6 @@ pub struct Counts {
 
 // The answer of a whole lowering.
 pub enum Lowered {
-    Done(Counts),
     Refused(Refusal),
+    Done(Counts),
 }

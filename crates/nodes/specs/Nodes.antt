@@ -34,6 +34,8 @@ use Rattle.cursor.specs.declared.TextRead.{TextRead}
 use Rattle.cursor.specs.declared.TextRead.the-variants as text
 use Rattle.nodes.specs.declared.node.NodeRead.{NodeRead}
 use Rattle.nodes.specs.declared.node.NodeRead.the-variants as read
+use Rattle.nodes.specs.declared.node.Front.{Front}
+use Rattle.nodes.specs.declared.node.Front.the-variants as front
 
 -- what was read goes on to the rest; a missing byte, an unknown number or a test that fails is the answer
 abbrev pub withByte : {A : Type 0} → ByteRead → A → (ℕ → A) → A
@@ -95,6 +97,23 @@ fieldsAt s va MethodCall at line =
     withText (textAt s at) missing λ t. withByte (byteAt s (endOf t)) missing λ n. node (head.Many (many.MethodCall t) n) line (endOf t + 1)
 fieldsAt s va Call at line = withByte (byteAt s at) missing λ n. node (head.Many many.Call n) line (at + 1)
 fieldsAt s va Paren at line = node (head.One one.Paren) line at
+
+-- what stands before the fields: kind byte, map byte, line if its bit stands. The kind, the place of the fields, and the node's line
+abbrev pub frontAt : List ℕ → ℕ → ℕ → Front
+frontAt s at line =
+    withByte (byteAt s at) (front.Refused refusal.Missing) λ b.
+    withKind (kindOf b) (front.Refused refusal.Kind) λ k.
+    withByte (byteAt s (at + 1)) (front.Refused refusal.Missing) λ m.
+    require (eqb (m / 2) (mapOf k)) (front.Refused refusal.Map) λ _.
+    elim (eqb (m % 2) 0) [
+      | true ↦ front.Front k (at + 2) line
+      | false ↦ withLine (lineAt s (at + 2)) (front.Refused refusal.Missing) λ l. front.Front k (at + 6) l
+    ]
+
+-- the fields read by f behind what stands before them
+abbrev pub withFront : Front → (Kind → ℕ → ℕ → NodeRead) → NodeRead
+withFront (front.Refused k) f = read.Refused k
+withFront (front.Front k at line) f = f k at line
 
 -- kind byte, map byte, line if its bit stands, and the kind's fields; a missing line is that of the node before
 unfoldable pub nodeAt : List ℕ → Bool → ℕ → ℕ → NodeRead

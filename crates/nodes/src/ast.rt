@@ -2,7 +2,6 @@
 ghost use mathlib.Core.Path.{_≡_};
 ghost use Rattle.nodes.specs.Operators.{binOpOf, unOpOf};
 ghost use Rattle.nodes.specs.Kinds.{kindOf, mapOf};
-ghost use Rattle.nodes.specs.Children.{childrenOf};
 use cursor::Text;
 
 // The kinds of node, in the order of their numbers.
@@ -24,8 +23,8 @@ pub enum Kind {
 }
 
 pub enum KindRead {
-    Known(Kind),
     Unknown,
+    Known(Kind),
 }
 
 impl Kind {
@@ -143,8 +142,8 @@ pub struct Node {
 }
 
 pub enum BinOpRead {
-    Known(BinOp),
     Unknown,
+    Known(BinOp),
 }
 
 impl BinOp {
@@ -174,8 +173,8 @@ impl BinOp {
 }
 
 pub enum UnOpRead {
-    Known(UnOp),
     Unknown,
+    Known(UnOp),
 }
 
 impl UnOp {
@@ -188,20 +187,6 @@ impl UnOp {
             1 => UnOpRead::Known(UnOp::Not),
             2 => UnOpRead::Known(UnOp::Len),
             _ => UnOpRead::Unknown,
-        }
-    }
-}
-
-impl Head {
-    // How many sub-expressions follow.
-    pub fn children(self) -> usize
-        ensures { λ r. ⌜ childrenOf self ≡ r ⌝ }
-    {
-        match self {
-            Head::Leaf(_) => 0,
-            Head::One(_) => 1,
-            Head::Two(_) => 2,
-            Head::Many(_, args) => args as usize + 1,
         }
     }
 }

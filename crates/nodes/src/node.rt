@@ -3,7 +3,7 @@ ghost use mathlib.Core.Path.{_≡_};
 ghost use mathlib.Core.List.{List};
 ghost use mathlib.Core.Bool.{Bool};
 ghost use Prim.Native.Nat.{ℕ};
-ghost use Rattle.nodes.specs.Nodes.{node, nodeAt, fieldsAt};
+ghost use Rattle.nodes.specs.Nodes.{node, nodeAt, fieldsAt, frontAt};
 ghost use Rattle.nodes.specs.declared.ast.Head.the-variants as head;
 ghost use Rattle.nodes.specs.declared.ast.Kind.the-variants.{Number, Str, VarArg, Name, Binary, Unary, Field, MethodCall, Call};
 use crate::ast::BinOp;
@@ -25,8 +25,13 @@ use cursor::TextRead;
 use refusals::Refusal;
 
 pub enum NodeRead {
-    Node(Node),
     Refused(Refusal),
+    Node(Node),
+}
+
+pub enum Front {
+    Refused(Refusal),
+    Front(Kind, usize, u32),
 }
 
 // The node that ends its fields at `next`.
@@ -175,30 +180,38 @@ fn read_fields(chunk: &[u8], varargs: bool, kind: Kind, at: usize, line: u32) ->
     }
 }
 
+// What stands before the fields: the kind, the place behind kind, map and line, and the node's line.
+pub fn read_front(chunk: &[u8], at: usize, line: u32) -> Front
+    ensures { λ r. ⌜ frontAt (now (chunk .entry)) at line ≡ r ⌝ }
+{
+    let ByteRead::Byte(b) = reader::read_byte(chunk, at) else {
+        return Front::Refused(Refusal::Missing);
+    };
+    let KindRead::Known(kind) = Kind::from_u8(b) else {
+        return Front::Refused(Refusal::Kind);
+    };
+    let ByteRead::Byte(map) = reader::read_byte(chunk, at + 1) else {
+        return Front::Refused(Refusal::Missing);
+    };
+    if map / 2 != kind.map() {
+        return Front::Refused(Refusal::Map);
+    }
+    let from = at + 2;
+    if map % 2 == 0 {
+        return Front::Front(kind, from, line);
+    }
+    let LineRead::Line(l) = reader::read_line(chunk, from) else {
+        return Front::Refused(Refusal::Missing);
+    };
+    Front::Front(kind, at + 6, l)
+}
+
 // The node whose kind byte is at `at`; `line` is that of the node before.
 pub fn read_node(chunk: &[u8], varargs: bool, at: usize, line: u32) -> NodeRead
     ensures { λ r. ⌜ nodeAt (now (chunk .entry)) varargs at line ≡ r ⌝ }
 {
-    let ByteRead::Byte(b) = reader::read_byte(chunk, at) else {
-        return NodeRead::Refused(Refusal::Missing);
-    };
-    let KindRead::Known(kind) = Kind::from_u8(b) else {
-        return NodeRead::Refused(Refusal::Kind);
-    };
-    let ByteRead::Byte(map) = reader::read_byte(chunk, at + 1) else {
-        return NodeRead::Refused(Refusal::Missing);
-    };
-    if map / 2 != kind.map() {
-        return NodeRead::Refused(Refusal::Map);
+    match read_front(chunk, at, line) {
+        Front::Front(kind, from, own) => read_fields(chunk, varargs, kind, from, own),
+        Front::Refused(k) => NodeRead::Refused(k),
     }
-    let mut from = at + 2;
-    let mut own = line;
-    if map % 2 != 0 {
-        let LineRead::Line(l) = reader::read_line(chunk, from) else {
-            return NodeRead::Refused(Refusal::Missing);
-        };
-        own = l;
-        from = at + 6;
-    }
-    read_fields(chunk, varargs, kind, from, own)
 }

@@ -8,6 +8,7 @@ ghost use Rattle.model.specs.Descriptor.{tagOf, isKind};
 ghost use Rattle.model.specs.Discharge.{free-expr, rk as rkOf};
 ghost use Rattle.model.specs.Operators.{free-both};
 ghost use Rattle.operands.specs.Forms.{formOf};
+ghost use Rattle.operands.specs.Laws.{registerOf};
 use emission::free_reg;
 use folding::Arith;
 use instructions::OpCode;
@@ -67,14 +68,21 @@ pub fn rk(e: ExprContext) -> usize
 
 // ---- registers
 
+// The register of a value in one; of another 256, which is none.
+fn register_of(e: ExprContext) -> usize
+    ensures { λ r. ⌜ registerOf e ≡ r ⌝ }
+{
+    if is_kind(e, ExprKind::NonReloc) {
+        return e.info;
+    }
+    256
+}
+
 // The register of a value in one is free again.
 pub fn free_expr(st: State, e: ExprContext) -> State
     ensures { λ r. ⌜ ((m : Buffers) → free-expr e st m ≡ done tt r m) ⌝ }
 {
-    if is_kind(e, ExprKind::NonReloc) {
-        return free_reg(st, e.info);
-    }
-    st
+    free_reg(st, register_of(e))
 }
 
 // Two operands are freed, the higher register first (difference 2).

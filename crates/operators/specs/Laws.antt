@@ -32,17 +32,12 @@ use Rattle.model.specs.Discharge.{discharge-vars, free-expr, exp2nextreg, exp2a
 use Rattle.model.specs.Conditions.{goiftrue, goiffalse, code-not, bit}
 use Rattle.model.specs.Operators.{arithOp, const-fold, with-number, unless-folded, free-both, emit-arith, code-arith, code-unary, code-concat, is-far, far-numeral, compare-operands, either, emit-comp, code-comp, operand, before-right, code-and, code-or, join-concat, after-right, code-unop}
 use Rattle.emission.specs.Parts.{bufs}
-use Rattle.emission.specs.Laws.{branch}
+use Rattle.emission.specs.Laws.{branch, then-done, then-refused}
 use Rattle.operands.specs.Forms.{formOf}
 use Rattle.conditions.specs.Parts.{relocable, unary, tested}
 use Rattle.operands.specs.declared.Form.{Form}
 use Rattle.operands.specs.declared.Form.the-variants.{And, Or, Concat, Arithmetic, Comparison}
-use Rattle.operators.specs.declared.Both.{Both}
-use Rattle.operators.specs.Parts.{both-rk, bothIs, chosen, arith-of, jump-of, concat-word, concat-left, joined-to}
-
--- two operands that were found to be one of their kinds
-pub both-told : (g : Both) (m : Buffers) {x : Result (ExprContext × ExprContext)} {h : Both} → x ≡ bothIs g m → g ≡ h → x ≡ bothIs h m
-both-told g m q e = q ∙ ap (λ (o : Both). bothIs o m) e
+use Rattle.operators.specs.Parts.{chosen, arith-of, arith-left, jump-of, comp-second, concat-word, concat-left, joined-to}
 
 -- ---- folding
 
@@ -63,49 +58,24 @@ module _ (o : Arith) (e₁ e₂ : ExprContext) where
 
 -- ---- arithmetic
 
-module _ (x y : ExprContext) (s : State) (m : Buffers) where
-  module _ {a : ExprContext} {t : State} {k : Buffers} (h : exp2rk x s m ≡ done a t k) where
-    pub both-done : {b : ExprContext} {u : State} {o : Buffers} → exp2rk y t k ≡ done b u o → both-rk x y s m ≡ done (a, b) u o
-    unfolding andThen
-    both-done i = simp (h, i)
+module _ (o : Arith) (e₁ : ExprContext) where
+  module _ (c : ExprContext) (s : State) (m : Buffers) where
+    pub arith-left-done : {b : ExprContext} {t : State} {k : Buffers} → exp2rk e₁ s m ≡ done b t k → arith-left o e₁ c s m ≡ arith-of o b c t k
+    arith-left-done = then-done (λ (b : ExprContext). arith-of o b c)
 
-    pub both-second : {r : Refusal} {o : Buffers} → exp2rk y t k ≡ refused r o → both-rk x y s m ≡ refused r o
-    unfolding andThen
-    both-second i = simp (h, i)
+    pub arith-left-refused : {r : Refusal} {k : Buffers} → exp2rk e₁ s m ≡ refused r k → arith-left o e₁ c s m ≡ refused r k
+    arith-left-refused = then-refused (λ (b : ExprContext). arith-of o b c)
 
-  pub both-first : {r : Refusal} {k : Buffers} → exp2rk x s m ≡ refused r k → both-rk x y s m ≡ refused r k
-  unfolding andThen
-  both-first h = simp h
+  module _ (e₂ : ExprContext) (s : State) (m : Buffers) where
+    pub emit-arith-done : {c : ExprContext} {t : State} {k : Buffers} → exp2rk e₂ s m ≡ done c t k → emit-arith o e₁ e₂ s m ≡ arith-left o e₁ c t k
+    unfolding emit-arith
+    emit-arith-done = then-done (λ (c : ExprContext). arith-left o e₁ c)
 
--- two operands, and then what is done with them
-both-then : {A B C : Type 0} (x : Result A) (y : A → Step B) (f : A → B → Step C) {r : Result (A × B)} → andThen x (λ (a : A) (s : State) (m : Buffers). andThen (y a s m) (λ (b : B) (t : State) (k : Buffers). done (a, b) t k)) ≡ r →
-    andThen x (λ (a : A) (s : State) (m : Buffers). andThen (y a s m) (f a)) ≡ andThen r (λ (p : A × B). f (p .0) (p .1))
-unfolding andThen
-both-then {A} {B} x y f q = go x ∙ ap (λ (z : Result (A × B)). andThen z (λ (p : A × B). f (p .0) (p .1))) q
-  where
-    inner : (a : A) (z : Result B) → andThen z (f a) ≡ andThen (andThen z (λ (b : B) (t : State) (k : Buffers). done (a, b) t k)) (λ (p : A × B). f (p .0) (p .1))
-    inner a (done b t k) = refl
-    inner a (refused r k) = refl
-
-    go : (z : Result A) →
-        andThen z (λ (a : A) (s : State) (m : Buffers). andThen (y a s m) (f a))
-        ≡ andThen (andThen z (λ (a : A) (s : State) (m : Buffers). andThen (y a s m) (λ (b : B) (t : State) (k : Buffers). done (a, b) t k))) (λ (p : A × B). f (p .0) (p .1))
-    go (done a s m) = inner a (y a s m)
-    go (refused r m) = refl
+    pub emit-arith-refused : {r : Refusal} {k : Buffers} → exp2rk e₂ s m ≡ refused r k → emit-arith o e₁ e₂ s m ≡ refused r k
+    unfolding emit-arith
+    emit-arith-refused = then-refused (λ (c : ExprContext). arith-left o e₁ c)
 
 module _ (o : Arith) (e₁ e₂ : ExprContext) (s : State) (m : Buffers) where
-  emit-arith-is : {r : Result (ExprContext × ExprContext)} → both-rk e₂ e₁ s m ≡ r → emit-arith o e₁ e₂ s m ≡ andThen r (λ (p : ExprContext × ExprContext). arith-of o (p .1) (p .0))
-  unfolding emit-arith
-  emit-arith-is h = both-then (exp2rk e₂ s m) (λ (c : ExprContext). exp2rk e₁) (λ (c b : ExprContext). arith-of o b c) h
-
-  pub emit-arith-done : {b c : ExprContext} {t : State} {k : Buffers} → both-rk e₂ e₁ s m ≡ done (c, b) t k → emit-arith o e₁ e₂ s m ≡ arith-of o b c t k
-  unfolding andThen
-  emit-arith-done h = emit-arith-is h
-
-  pub emit-arith-refused : {r : Refusal} {k : Buffers} → both-rk e₂ e₁ s m ≡ refused r k → emit-arith o e₁ e₂ s m ≡ refused r k
-  unfolding andThen
-  emit-arith-refused h = emit-arith-is h
-
   pub arith-folded : {n : Numeral} {d : ExprContext} → const-fold o e₁ e₂ ≡ Folded n → with-number n e₁ ≡ d → code-arith o e₁ e₂ s m ≡ done d s m
   unfolding code-arith
   arith-folded h q = ap (λ (f : Fold). unless-folded f e₁ (emit-arith o e₁ e₂) s m) h ∙ ap (λ (d : ExprContext). done d s m) q
@@ -200,29 +170,39 @@ module _ (o : OpCode) (cond swapped : Bool) where
       ∙ ap (λ (k : Result ℕ). andThen k (jump-of b)) w
       ∙ n
 
+  module _ (far : Bool) (x y : ExprContext) (s : State) (m : Buffers) where
+    pub second-done : {z l r : ExprContext} {t : State} {k : Buffers} {v : Result ExprContext} → exp2rk y s m ≡ done z t k → chosen far x z ≡ l → chosen far z x ≡ r → emit-comp o cond swapped l r t k ≡ v →
+        comp-second o cond swapped far x y s m ≡ v
+    second-done {z} {l} {r} {t} {k} h i j n =
+        then-done (λ (d : ExprContext). emit-comp o cond swapped (chosen far x d) (chosen far d x)) h
+        ∙ ap (λ (d : ExprContext). emit-comp o cond swapped d (chosen far z x) t k) i
+        ∙ ap (λ (d : ExprContext). emit-comp o cond swapped l d t k) j
+        ∙ n
+
+    pub second-refused : {r : Refusal} {k : Buffers} → exp2rk y s m ≡ refused r k → comp-second o cond swapped far x y s m ≡ refused r k
+    second-refused = then-refused (λ (d : ExprContext). emit-comp o cond swapped (chosen far x d) (chosen far d x))
+
   module _ (e₁ e₂ : ExprContext) (s : State) (m : Buffers) where
-    comp-of : (far : Bool) {r : Result (ExprContext × ExprContext)} → both-rk (chosen far e₁ e₂) (chosen far e₂ e₁) s m ≡ r →
-        compare-operands far e₁ e₂ (emit-comp o cond swapped) s m ≡ andThen r (λ (p : ExprContext × ExprContext). emit-comp o cond swapped (chosen far (p .0) (p .1)) (chosen far (p .1) (p .0)))
+    -- a far numeral goes second
+    comp-of : (far : Bool) → compare-operands far e₁ e₂ (emit-comp o cond swapped) s m ≡ andThen (exp2rk (chosen far e₁ e₂) s m) (λ (x : ExprContext). comp-second o cond swapped far x (chosen far e₂ e₁))
     unfolding compare-operands
-    comp-of true h = both-then (exp2rk e₂ s m) (λ (c : ExprContext). exp2rk e₁) (λ (c b : ExprContext). emit-comp o cond swapped b c) h
-    comp-of false h = both-then (exp2rk e₁ s m) (λ (b : ExprContext). exp2rk e₂) (λ (b c : ExprContext). emit-comp o cond swapped b c) h
+    comp-of true = refl
+    comp-of false = refl
 
     module _ {far : Bool} {x y : ExprContext} (f : far-numeral e₁ s m ≡ done far s m) (p : chosen far e₁ e₂ ≡ x) (q : chosen far e₂ e₁ ≡ y) where
-      code-comp-is : {r : Result (ExprContext × ExprContext)} → both-rk x y s m ≡ r →
-          code-comp o cond swapped e₁ e₂ s m ≡ andThen r (λ (p : ExprContext × ExprContext). emit-comp o cond swapped (chosen far (p .0) (p .1)) (chosen far (p .1) (p .0)))
-      unfolding code-comp andThen
-      code-comp-is h =
-          ap (λ (z : Result Bool). andThen z (λ (b : Bool). compare-operands b e₁ e₂ (emit-comp o cond swapped))) f
-          ∙ comp-of far (ap (λ (z : ExprContext). both-rk z (chosen far e₂ e₁) s m) p ∙ ap (λ (z : ExprContext). both-rk x z s m) q ∙ h)
+      code-comp-is : code-comp o cond swapped e₁ e₂ s m ≡ andThen (exp2rk x s m) (λ (a : ExprContext). comp-second o cond swapped far a y)
+      unfolding code-comp
+      code-comp-is =
+          then-done (λ (b : Bool). compare-operands b e₁ e₂ (emit-comp o cond swapped)) f
+          ∙ comp-of far
+          ∙ ap (λ (z : ExprContext). andThen (exp2rk z s m) (λ (a : ExprContext). comp-second o cond swapped far a (chosen far e₂ e₁))) p
+          ∙ ap (λ (z : ExprContext). andThen (exp2rk x s m) (λ (a : ExprContext). comp-second o cond swapped far a z)) q
 
-      pub comp-done : {a b l z : ExprContext} {t : State} {k : Buffers} {r : Result ExprContext} → both-rk x y s m ≡ done (a, b) t k → chosen far a b ≡ l → chosen far b a ≡ z → emit-comp o cond swapped l z t k ≡ r →
-          code-comp o cond swapped e₁ e₂ s m ≡ r
-      unfolding andThen
-      comp-done {a} {b} {l} {z} {t} {k} h i j n = code-comp-is h ∙ ap (λ (d : ExprContext). emit-comp o cond swapped d (chosen far b a) t k) i ∙ ap (λ (d : ExprContext). emit-comp o cond swapped l d t k) j ∙ n
+      pub comp-done : {a : ExprContext} {t : State} {k : Buffers} → exp2rk x s m ≡ done a t k → code-comp o cond swapped e₁ e₂ s m ≡ comp-second o cond swapped far a y t k
+      comp-done h = code-comp-is ∙ then-done (λ (a : ExprContext). comp-second o cond swapped far a y) h
 
-      pub comp-refused : {r : Refusal} {k : Buffers} → both-rk x y s m ≡ refused r k → code-comp o cond swapped e₁ e₂ s m ≡ refused r k
-      unfolding andThen
-      comp-refused h = code-comp-is h
+      pub comp-refused : {r : Refusal} {k : Buffers} → exp2rk x s m ≡ refused r k → code-comp o cond swapped e₁ e₂ s m ≡ refused r k
+      comp-refused h = code-comp-is ∙ then-refused (λ (a : ExprContext). comp-second o cond swapped far a y) h
 
 -- ---- before and after the right operand
 

@@ -1,44 +1,44 @@
--- Parts of the definitions that the code has functions for: two operands as RK, and what follows the operands. Assumes nothing.
+-- Parts of the definitions that the code has functions for: what follows the operands. Assumes nothing.
 use Prim.Native.Nat.{ℕ, _-_}
 use mathlib.Core.Bool.{Bool, true, false, _&&_}
 use Rattle.instructions.specs.Word.{setBOf}
+use Rattle.instructions.specs.declared.OpCode.{OpCode}
 use Rattle.instructions.specs.declared.OpCode.the-variants as op
 use Rattle.folding.specs.declared.Arith.{Arith}
 use Rattle.model.specs.declared.ExprKind.the-variants.{Jmp, Relocable}
 use Rattle.model.specs.declared.ExprContext.{ExprContext}
-use Rattle.model.specs.Steps.{Buffers, Result, done, refused, Step, _>>=_, _>>_, return, words}
+use Rattle.model.specs.Steps.{Step, _>>=_, _>>_, return, words}
 use Rattle.model.specs.Descriptor.{is, jumps, isKind}
 use Rattle.model.specs.Jumps.{word, isOp}
 use Rattle.model.specs.Discharge.{change-word, free-expr, exp2nextreg, exp2anyreg, exp2rk, rk}
-use Rattle.model.specs.Operators.{arithOp, free-both, code-concat}
+use Rattle.model.specs.Operators.{arithOp, free-both, code-concat, emit-comp}
 use Rattle.conditions.specs.Parts.{relocable}
-use Rattle.operators.specs.declared.Both.{Both}
-use Rattle.operators.specs.declared.Both.the-variants as both
-
--- two operands as RK, in turn, and what the answer stands for
-abbrev pub both-rk : ExprContext → ExprContext → Step (ExprContext × ExprContext)
-both-rk x y = do
-  a ← exp2rk x
-  b ← exp2rk y
-  return (a, b)
-
-abbrev pub bothIs : Both → Buffers → Result (ExprContext × ExprContext)
-bothIs (both.Done s a b) m = done (a, b) s m
-bothIs (both.Refused k) m = refused k m
 
 -- the second of two
 abbrev pub chosen : Bool → ExprContext → ExprContext → ExprContext
 chosen true x y = y
 chosen false x y = x
 
--- of arithmetic and of a comparison: what follows the operands
+-- of arithmetic: what follows the operands, or the right one
 abbrev pub arith-of : Arith → ExprContext → ExprContext → Step ExprContext
 arith-of o b c = do
   free-both b c
   relocable (arithOp o) (rk b) (rk c) b
 
+abbrev pub arith-left : Arith → ExprContext → ExprContext → Step ExprContext
+arith-left o e₁ c = do
+  b ← exp2rk e₁
+  arith-of o b c
+
+-- of a comparison: what follows the jump, or the first operand
+
 abbrev pub jump-of : ExprContext → ℕ → Step ExprContext
 jump-of b list = return (jumps 0 0 (is Jmp (list - 1) b))
+
+abbrev pub comp-second : OpCode → Bool → Bool → Bool → ExprContext → ExprContext → Step ExprContext
+comp-second o cond swapped far x e = do
+  y ← exp2rk e
+  emit-comp o cond swapped (chosen far x y) (chosen far y x)
 
 -- of `code-concat`: what follows both operands, or the right one
 abbrev pub concat-word : ExprContext → ExprContext → Step ExprContext

@@ -7,7 +7,7 @@ ghost use Rattle.model.specs.Steps.{Buffers, done, andThen, givenIs, describedI
 ghost use Rattle.model.specs.Descriptor.{is-numeral};
 ghost use Rattle.model.specs.Operators.{arithOp, const-fold, with-number, code-arith, code-unary, code-concat, is-far, far-numeral, either as eitherOf, emit-comp, code-comp, operand as operandOf, before-right, code-and, code-or, join-concat, after-right, code-unop};
 ghost use Rattle.emission.specs.Parts.{bufs};
-ghost use Rattle.operators.specs.Parts.{bothIs, both-rk, chosen, arith-of, jump-of, concat-word, concat-left, joined-to};
+ghost use Rattle.operators.specs.Parts.{chosen, arith-of, arith-left, jump-of, comp-second, concat-word, concat-left, joined-to};
 use conditions::bit;
 use conditions::code_not;
 use conditions::emit_relocable;
@@ -46,13 +46,6 @@ use operands::free_both;
 use operands::free_expr;
 use operands::is_kind;
 use operands::rk;
-use refusals::Refusal;
-
-// A step that gives two descriptors.
-enum Both {
-    Done(State, ExprContext, ExprContext),
-    Refused(Refusal),
-}
 
 // ---- folding
 
@@ -111,32 +104,6 @@ fn arith_op(op: Arith) -> OpCode
     }
 }
 
-// Two operands as RK, in turn.
-fn both_rk(
-    code: &mut [u32],
-    lines: &mut [u32],
-    kinds: &mut [u8],
-    values: &mut [u64],
-    pool: &mut [u8],
-    st: State,
-    x: ExprContext,
-    y: ExprContext,
-) -> Both
-    ensures { λ r. ⌜ both-rk x y st (bufs (now (code .entry)) (now (lines .entry)) (now (kinds .entry)) (now (values .entry)) (now (pool .entry))) ≡ bothIs r (bufs (now (code .exit)) (now (lines .exit)) (now (kinds .exit)) (now (values .exit)) (now (pool .exit))) ⌝ }
-{
-    let first = exp2rk(code, lines, kinds, values, pool, st, x);
-    match first {
-        Described::Done(s, a) => {
-            let second = exp2rk(code, lines, kinds, values, pool, s, y);
-            match second {
-                Described::Done(u, b) => Both::Done(u, a, b),
-                Described::Refused(k) => Both::Refused(k),
-            }
-        }
-        Described::Refused(k) => Both::Refused(k),
-    }
-}
-
 // The word of two RK operands.
 fn arith_word(
     code: &mut [u32],
@@ -150,6 +117,27 @@ fn arith_word(
 {
     let s = free_both(st, b, c);
     emit_relocable(code, lines, s, arith_op(op), rk(b), rk(c), b)
+}
+
+// The left operand goes to RK, the right one being there.
+fn arith_onto(
+    code: &mut [u32],
+    lines: &mut [u32],
+    kinds: &mut [u8],
+    values: &mut [u64],
+    pool: &mut [u8],
+    st: State,
+    op: Arith,
+    e1: ExprContext,
+    c: ExprContext,
+) -> Described
+    ensures { λ r. ⌜ arith-left op e1 c st (bufs (now (code .entry)) (now (lines .entry)) (now (kinds .entry)) (now (values .entry)) (now (pool .entry))) ≡ describedIs r (bufs (now (code .exit)) (now (lines .exit)) (now (kinds .exit)) (now (values .exit)) (now (pool .exit))) ⌝ }
+{
+    let answer = exp2rk(code, lines, kinds, values, pool, st, e1);
+    match answer {
+        Described::Done(s, b) => arith_word(code, lines, s, op, b, c),
+        Described::Refused(k) => Described::Refused(k),
+    }
 }
 
 // For + - * / % ^. The right operand goes to RK first.
@@ -170,10 +158,12 @@ pub fn code_arith(
     match folded {
         Fold::Folded(n) => Described::Done(st, with_number(e1, n)),
         Fold::Kept => {
-            let answer = both_rk(code, lines, kinds, values, pool, st, e2, e1);
+            let answer = exp2rk(code, lines, kinds, values, pool, st, e2);
             match answer {
-                Both::Done(s, c, b) => arith_word(code, lines, s, op, b, c),
-                Both::Refused(k) => Described::Refused(k),
+                Described::Done(s, c) => {
+                    arith_onto(code, lines, kinds, values, pool, s, op, e1, c)
+                }
+                Described::Refused(k) => Described::Refused(k),
             }
         }
     }
@@ -341,6 +331,39 @@ fn emit_comp(
     compared(answer, b)
 }
 
+// The second operand goes to RK, the first being there; with a far numeral that is the left one.
+fn compare_with(
+    code: &mut [u32],
+    lines: &mut [u32],
+    kinds: &mut [u8],
+    values: &mut [u64],
+    pool: &mut [u8],
+    st: State,
+    op: OpCode,
+    cond: bool,
+    swapped: bool,
+    far: bool,
+    x: ExprContext,
+    second: ExprContext,
+) -> Described
+    ensures { λ r. ⌜ comp-second op cond swapped far x second st (bufs (now (code .entry)) (now (lines .entry)) (now (kinds .entry)) (now (values .entry)) (now (pool .entry))) ≡ describedIs r (bufs (now (code .exit)) (now (lines .exit)) (now (kinds .exit)) (now (values .exit)) (now (pool .exit))) ⌝ }
+{
+    let answer = exp2rk(code, lines, kinds, values, pool, st, second);
+    match answer {
+        Described::Done(s, y) => emit_comp(
+            code,
+            lines,
+            s,
+            op,
+            cond,
+            swapped,
+            choose(far, x, y),
+            choose(far, y, x),
+        ),
+        Described::Refused(k) => Described::Refused(k),
+    }
+}
+
 // The left operand goes to RK first, unless it is a far numeral (difference 2).
 pub fn code_comp(
     code: &mut [u32],
@@ -360,19 +383,23 @@ pub fn code_comp(
     let far = far_numeral(kinds, values, pool, st, e1);
     let first = choose(far, e1, e2);
     let second = choose(far, e2, e1);
-    let answer = both_rk(code, lines, kinds, values, pool, st, first, second);
+    let answer = exp2rk(code, lines, kinds, values, pool, st, first);
     match answer {
-        Both::Done(s, x, y) => emit_comp(
+        Described::Done(s, x) => compare_with(
             code,
             lines,
+            kinds,
+            values,
+            pool,
             s,
             op,
             cond,
             swapped,
-            choose(far, x, y),
-            choose(far, y, x),
+            far,
+            x,
+            second,
         ),
-        Both::Refused(k) => Described::Refused(k),
+        Described::Refused(k) => Described::Refused(k),
     }
 }
 

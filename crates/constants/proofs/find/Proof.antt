@@ -1,94 +1,88 @@
--- `constants::find` meets its contract. The loop's invariant: what is left of the search at entry i decides.
-use mathlib.Core.Path.{_≡_, _∙_}
-use Prim.Native.Nat.{_≤_, _-_}
+-- `constants::find` meets its contract: an entry is the constant where the arm's search says so, and none lies behind the shorter list.
+use mathlib.Core.Path.{ap, _∙_}
 use native.Mathlib.Omega.{arith}
-use denote.Ref.{now}
-use Rattle.constants.specs.Entry.{holds}
-use Rattle.constants.specs.Table.{find}
-use Rattle.constants.proofs.Steps.{rest, search-start, search-end, search-no-kinds, search-no-values, search-hit, search-miss}
+use Rattle.constants.specs.Entry.{nil, number, text, constantOf, entryOf, same}
+use Rattle.constants.proofs.Steps.{holds-kind, holds-truth, found-by}
 use Rattle.constants.proofs.find.Statement.{statement}
 use Rattle.constants.proofs.find.Tie as tie
 
-abbrev Inv-loop : tie.InvT-loop
-Inv-loop kinds values pool chunk count v i₀ i =
-    (i ≤ count) × (find (holds pool chunk v) count kinds values ≡ rest (holds pool chunk v) count kinds values i)
+least-requires : tie.Need-least-requires
+least-requires c κs = tt
 
-abbrev μ-loop : tie.MeasureT-loop
-μ-loop kinds values pool chunk count v i₀ i = count - i
+least-requires-2 : tie.Need-least-requires-2
+least-requires-2 c κs = tt
 
-loop-holds : tie.Need-loop-holds Inv-loop μ-loop
-loop-holds c =
-    let a = c .before .before .before .before .args in
-    (omega arith, search-start (holds (now (a .pool)) (now (a .chunk)) (a .v)) (a .count) (now (a .kinds)) (now (a .values)))
+enum-told : tie.Need-enum-told
+enum-told c = c .match .keys1
 
-returns : tie.Need-returns Inv-loop μ-loop
+find-kind-requires : tie.Need-find-kind-requires
+find-kind-requires c κs = omega arith
+
+enum-known-v : tie.Need-enum-known-v
+enum-known-v c = c .match .keys2
+
+truth-kind-requires : tie.Need-truth-kind-requires
+truth-kind-requires c κs = tt
+
+find-kind-requires-2 : tie.Need-find-kind-requires-2
+find-kind-requires-2 c κs = omega arith
+
+enum-known-v-2 : tie.Need-enum-known-v-2
+enum-known-v-2 c = c .match .keys3
+
+find-number-requires : tie.Need-find-number-requires
+find-number-requires c κs = omega arith
+
+enum-known-v-3 : tie.Need-enum-known-v-3
+enum-known-v-3 c = c .match .keys4
+
+part-requires : tie.Need-part-requires
+part-requires c κs = tt
+
+find-text-requires : tie.Need-find-text-requires
+find-text-requires c κs = omega arith
+
+returns : tie.Need-returns
+unfolding entryOf same
 returns c =
-    let a = c .before .before .before .before .before .before .before .args in
-    let at = c .before .before .loop in
-    let p = holds (now (a .pool)) (now (a .chunk)) (a .v) in
-    at .inv .1 ∙ search-no-kinds p (a .count) (now (a .kinds)) (now (a .values)) (at .i) (omega arith)
+    found-by _ _ _ _ _ _ _ (c .before .before .before .before .least .ensures) (c .before .before .before .least2 .ensures)
+    (holds-kind _ _ _ nil (ap (constantOf _) (c .before .enum-told .given .1))) (c .find-kind .ensures _ (omega arith))
 
-returns-2 : tie.Need-returns-2 Inv-loop μ-loop
+returns-2 : tie.Need-returns-2
+unfolding entryOf same
 returns-2 c =
-    let a = c .before .before .before .before .before .before .before .before .args in
-    let at = c .before .before .before .loop in
-    let p = holds (now (a .pool)) (now (a .chunk)) (a .v) in
-    at .inv .1 ∙ search-no-values p (a .count) (now (a .kinds)) (now (a .values)) (at .i) (omega arith)
+    found-by _ _ _ _ _ _ _ (c .before .before .before .before .before .before .least .ensures) (c .before .before .before .before .before .least2 .ensures)
+    (holds-truth _ _ _ _ (ap (constantOf _) (c .before .before .before .v .given .1)) (c .before .truth-kind .ensures)) (c .find-kind2 .ensures _ (omega arith))
 
-shared-slice-read-is-entry : tie.Need-shared-slice-read-is-entry Inv-loop μ-loop
-shared-slice-read-is-entry c = omega arith
-
-mul-is-entry : tie.Need-mul-is-entry Inv-loop μ-loop
-mul-is-entry c = omega arith
-
-shared-slice-read-is-entry-2 : tie.Need-shared-slice-read-is-entry-2 Inv-loop μ-loop
-shared-slice-read-is-entry-2 c = omega arith
-
-is-entry-requires : tie.Need-is-entry-requires Inv-loop μ-loop
-is-entry-requires c κs = tt
-
-returns-3 : tie.Need-returns-3 Inv-loop μ-loop
+returns-3 : tie.Need-returns-3
+unfolding entryOf same
 returns-3 c =
-    let a = c .before .before .before .before .before .before .before .before .before .before .before .before .args in
-    let at = c .before .before .before .before .before .before .before .loop in
-    let p = holds (now (a .pool)) (now (a .chunk)) (a .v) in
-    at .inv .1 ∙ search-hit p (a .count) (now (a .kinds)) (now (a .values)) (at .i) (omega arith) (omega arith) (omega arith) (c .before .is-entry .ensures) (c .if3 .taken)
+    found-by _ _ _ _ _ _ _ (c .before .before .before .before .before .least .ensures) (c .before .before .before .before .least2 .ensures)
+    (holds-kind _ _ _ (number _) (ap (constantOf _) (c .before .before .v2 .given .1))) (c .find-number .ensures)
 
-add-i : tie.Need-add-i Inv-loop μ-loop
-add-i c = omega arith
-
-loop-less : tie.Need-loop-less Inv-loop μ-loop
-loop-less c = omega arith
-
-loop-again : tie.Need-loop-again Inv-loop μ-loop
-loop-again c =
-    let a = c .before .before .before .before .before .before .before .before .before .before .before .before .args in
-    let at = c .before .before .before .before .before .before .before .loop in
-    let p = holds (now (a .pool)) (now (a .chunk)) (a .v) in
-    (omega arith, at .inv .1 ∙ search-miss p (a .count) (now (a .kinds)) (now (a .values)) (at .i) (omega arith) (omega arith) (omega arith) (c .before .is-entry .ensures) (c .if3 .left))
-
-returns-4 : tie.Need-returns-4 Inv-loop μ-loop
+returns-4 : tie.Need-returns-4
+unfolding entryOf same
 returns-4 c =
-    let a = c .before .before .before .before .before .before .args in
-    let at = c .before .loop in
-    let p = holds (now (a .pool)) (now (a .chunk)) (a .v) in
-    at .inv .1 ∙ search-end p (a .count) (now (a .kinds)) (now (a .values)) (at .i) (omega arith)
+    found-by _ _ _ _ _ _ _ (c .before .before .before .before .before .before .least .ensures) (c .before .before .before .before .before .least2 .ensures)
+    (holds-kind _ _ _ (text _) (ap (constantOf _) (c .before .before .before .v3 .given .1) ∙ ap text (c .before .part .ensures))) (c .find-text .ensures)
 
 pub find-spec : {M : Type 1} → statement M
 find-spec =
     tie.close
     (tie.spec
-    Inv-loop
-    μ-loop
-    loop-holds
+    least-requires
+    least-requires-2
+    enum-told
+    find-kind-requires
+    enum-known-v
+    truth-kind-requires
+    find-kind-requires-2
+    enum-known-v-2
+    find-number-requires
+    enum-known-v-3
+    part-requires
+    find-text-requires
     returns
     returns-2
-    shared-slice-read-is-entry
-    mul-is-entry
-    shared-slice-read-is-entry-2
-    is-entry-requires
     returns-3
-    add-i
-    loop-less
-    loop-again
     returns-4)

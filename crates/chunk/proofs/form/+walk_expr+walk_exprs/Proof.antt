@@ -1,13 +1,13 @@
--- The cycle ends because nesting falls. A node is walked by walking its children (`expr-walked`); the loop's invariant says that whatever the rest gives, the whole gives (`more-walked`).
-use Prim.Native.Nat.{_+_, _-_, _*_}
-use mathlib.Core.Path.{_≡_, refl, sym, ap, _∙_}
+-- The cycle ends because nesting falls. A node is walked by walking its children, if any (`expr-walked`); the loop's invariant says that whatever the rest gives, the whole gives (`more-walked`).
+use Prim.Native.Nat.{_+_, _*_}
+use mathlib.Core.Path.{_≡_, refl, _∙_}
 use mathlib.Core.List.{List}
 use lib.ListN.{length}
 use borrow.Author.Needs.{needs}
 use native.Mathlib.Omega.{arith}
-use Rattle.chunk.specs.Ast.{spans, spansOf}
+use Rattle.chunk.specs.Ast.{spansOf}
 use Rattle.chunk.specs.Form.{exprAt, exprsAt}
-use Rattle.chunk.specs.Walks.{Walked, Inside, EndInside}
+use Rattle.chunk.specs.Walks.{Walked, Inside}
 use Rattle.chunk.specs.declared.form.WalkEnd.{WalkEnd}
 use Rattle.chunk.proofs.Walking.{more-walked, cut-walked, none-walked, expr-walked, unread-walked, deep-walked}
 use Rattle.chunk.proofs.Insides.{node-in}
@@ -18,9 +18,8 @@ use Rattle.chunk.proofs.form.walk_expr.Reads as walk-expr
 use Rattle.chunk.proofs.form.+walk_expr+walk_exprs.Lts-walk_expr as walk-expr-lts
 use Rattle.chunk.proofs.form.walk_exprs.Reads as walk-exprs
 use Rattle.chunk.proofs.form.+walk_expr+walk_exprs.Lts-walk_exprs as walk-exprs-lts
-use Rattle.nodes.proofs.ast.Head.children.Reads as children-reads
 use Rattle.chunk.proofs.form.put_place.Reads as put-place-reads
-use Rattle.nodes.proofs.node.read_node.Reads as read-node-reads
+use Rattle.nodes.proofs.skip.skip_node.Reads as skip-node-reads
 use Rattle.chunk.proofs.form.walk_expr.Kinds as walk-expr-kinds
 use Rattle.chunk.proofs.form.walk_exprs.Kinds as walk-exprs-kinds
 use Rattle.chunk.proofs.form.+walk_expr+walk_exprs.{statement}
@@ -48,185 +47,178 @@ walk-exprs-below t =
     and 2 walk-exprs-kinds.ps (falls 2 walk-exprs-kinds.ps _<_ μ-walk-exprs t) walk-exprs.Pre
 
 walk-expr-returns : (t : ℕ) → walk-expr-lts.Need-returns (
-  read-node-reads.Asked,
-  read-node-reads.Learnt,
+  skip-node-reads.Asked,
+  skip-node-reads.Learnt,
   put-place-reads.Asked,
   put-place-reads.Learnt,
-  children-reads.Asked,
-  children-reads.Learnt,
   walk-exprs-below t,
   walk-exprs.Post,
 ) (walk-expr-at t) walk-expr.Post
 walk-expr-returns t c = (deep-walked _ _ _ _ _ _ _ _ (c .if1 .taken), tt)
 
-walk-expr-read-node-requires : (t : ℕ) → walk-expr-lts.Need-read-node-requires (
-  read-node-reads.Asked,
-  read-node-reads.Learnt,
+walk-expr-skip-node-requires : (t : ℕ) → walk-expr-lts.Need-skip-node-requires (
+  skip-node-reads.Asked,
+  skip-node-reads.Learnt,
   put-place-reads.Asked,
   put-place-reads.Learnt,
-  children-reads.Asked,
-  children-reads.Learnt,
   walk-exprs-below t,
   walk-exprs.Post,
 ) (walk-expr-at t) walk-expr.Post
-walk-expr-read-node-requires t c κs = search needs
+walk-expr-skip-node-requires t c κs = search needs
 
 walk-expr-enum-known-n : (t : ℕ) → walk-expr-lts.Need-enum-known-n (
-  read-node-reads.Asked,
-  read-node-reads.Learnt,
+  skip-node-reads.Asked,
+  skip-node-reads.Learnt,
   put-place-reads.Asked,
   put-place-reads.Learnt,
-  children-reads.Asked,
-  children-reads.Learnt,
   walk-exprs-below t,
   walk-exprs.Post,
 ) (walk-expr-at t) walk-expr.Post
 walk-expr-enum-known-n t c = c .match .keys1
 
 walk-expr-cast-put-place : (t : ℕ) → walk-expr-lts.Need-cast-put-place (
-  read-node-reads.Asked,
-  read-node-reads.Learnt,
+  skip-node-reads.Asked,
+  skip-node-reads.Learnt,
   put-place-reads.Asked,
   put-place-reads.Learnt,
-  children-reads.Asked,
-  children-reads.Learnt,
   walk-exprs-below t,
   walk-exprs.Post,
 ) (walk-expr-at t) walk-expr.Post
 walk-expr-cast-put-place t c =
     let p4 = c .before .before .before .before in
     let p8 = p4 .before .before .before .before in
-    omega (arith, (p8 .pre), node-in _ _ _ _ _ ((p4 .read-node .ensures) ∙ (c .before .before .n .given .1)))
+    omega (arith, (p8 .pre), node-in _ _ _ _ _ ((p4 .skip-node .ensures) ∙ (c .before .before .n .given .1)))
 
 walk-expr-put-place-requires : (t : ℕ) → walk-expr-lts.Need-put-place-requires (
-  read-node-reads.Asked,
-  read-node-reads.Learnt,
+  skip-node-reads.Asked,
+  skip-node-reads.Learnt,
   put-place-reads.Asked,
   put-place-reads.Learnt,
-  children-reads.Asked,
-  children-reads.Learnt,
   walk-exprs-below t,
   walk-exprs.Post,
 ) (walk-expr-at t) walk-expr.Post
 walk-expr-put-place-requires t c κs = search needs
 
-walk-expr-children-requires : (t : ℕ) → walk-expr-lts.Need-children-requires (
-  read-node-reads.Asked,
-  read-node-reads.Learnt,
-  put-place-reads.Asked,
-  put-place-reads.Learnt,
-  children-reads.Asked,
-  children-reads.Learnt,
-  walk-exprs-below t,
-  walk-exprs.Post,
-) (walk-expr-at t) walk-expr.Post
-walk-expr-children-requires t c κs = search needs
-
 walk-expr-add-walk-exprs : (t : ℕ) → walk-expr-lts.Need-add-walk-exprs (
-  read-node-reads.Asked,
-  read-node-reads.Learnt,
+  skip-node-reads.Asked,
+  skip-node-reads.Learnt,
   put-place-reads.Asked,
   put-place-reads.Learnt,
-  children-reads.Asked,
-  children-reads.Learnt,
   walk-exprs-below t,
   walk-exprs.Post,
 ) (walk-expr-at t) walk-expr.Post
 walk-expr-add-walk-exprs t c =
-    let p12 = c .before .before .before .before .before .before .before .before .before .before .before .before in
-    omega (arith, (p12 .pre), (p12 .fits))
-
-walk-expr-sub-walk-exprs : (t : ℕ) → walk-expr-lts.Need-sub-walk-exprs (
-  read-node-reads.Asked,
-  read-node-reads.Learnt,
-  put-place-reads.Asked,
-  put-place-reads.Learnt,
-  children-reads.Asked,
-  children-reads.Learnt,
-  walk-exprs-below t,
-  walk-exprs.Post,
-) (walk-expr-at t) walk-expr.Post
-walk-expr-sub-walk-exprs t c =
-    let p10 = c .before .before .before .before .before .before .before .before .before .before in
-    let p13 = p10 .before .before .before in
-    omega (arith, (p13 .pre), (p13 .fits), (p10 .if1 .left))
-
-walk-expr-walk-exprs-requires : (t : ℕ) → walk-expr-lts.Need-walk-exprs-requires (
-  read-node-reads.Asked,
-  read-node-reads.Learnt,
-  put-place-reads.Asked,
-  put-place-reads.Learnt,
-  children-reads.Asked,
-  children-reads.Learnt,
-  walk-exprs-below t,
-  walk-exprs.Post,
-) (walk-expr-at t) walk-expr.Post
-walk-expr-walk-exprs-requires t c κs =
-    let p7 = c .before .before .before .before .before .before .before in
-    let p9 = p7 .before .before in
-    let p10 = p9 .before in
-    let p13 = p10 .before .before .before in
-    let i = node-in _ _ _ _ _ ((p9 .read-node .ensures) ∙ (p7 .n .given .1)) in
-    (omega (arith, (p13 .pre), (p10 .if1 .left)), record { short = (p13 .pre .1 .short); at-in = i .1; few = omega (arith, (p13 .pre)) })
-
-walk-expr-enum-known-k : (t : ℕ) → walk-expr-lts.Need-enum-known-k (
-  read-node-reads.Asked,
-  read-node-reads.Learnt,
-  put-place-reads.Asked,
-  put-place-reads.Learnt,
-  children-reads.Asked,
-  children-reads.Learnt,
-  walk-exprs-below t,
-  walk-exprs.Post,
-) (walk-expr-at t) walk-expr.Post
-walk-expr-enum-known-k t c = c .match .keys2
+    let p11 = c .before .before .before .before .before .before .before .before .before .before .before in
+    omega (arith, (p11 .pre), (p11 .fits))
 
 walk-expr-same-length : (t : ℕ) → walk-expr-lts.Need-same-length (
-  read-node-reads.Asked,
-  read-node-reads.Learnt,
+  skip-node-reads.Asked,
+  skip-node-reads.Learnt,
   put-place-reads.Asked,
   put-place-reads.Learnt,
-  children-reads.Asked,
-  children-reads.Learnt,
   walk-exprs-below t,
   walk-exprs.Post,
 ) (walk-expr-at t) walk-expr.Post
 walk-expr-same-length t c =
-    let p7 = c .before .before .before .before .before .before .before in
-    omega (arith, (c .before .before .walk-exprs .kept), (p7 .put-place .kept))
+    let p4 = c .before .before .before .before in
+    omega (arith, (p4 .put-place .kept))
 
 walk-expr-returns-2 : (t : ℕ) → walk-expr-lts.Need-returns-2 (
-  read-node-reads.Asked,
-  read-node-reads.Learnt,
+  skip-node-reads.Asked,
+  skip-node-reads.Learnt,
   put-place-reads.Asked,
   put-place-reads.Learnt,
-  children-reads.Asked,
-  children-reads.Learnt,
   walk-exprs-below t,
   walk-exprs.Post,
 ) (walk-expr-at t) walk-expr.Post
 walk-expr-returns-2 t c =
     let p4 = c .before .before .before .before in
     let p7 = p4 .before .before .before in
-    let p10 = p7 .before .before .before in
-    let p12 = p10 .before .before in
-    let p13 = p12 .before in
-    (expr-walked _ _ _ _ _ _ _ _ _ _ (p13 .if1 .left) ((p12 .read-node .ensures) ∙ (p10 .n .given .1)) (rw ((p4 .children .ensures), (p7 .put-place .ensures)) (c .before .before .walk-exprs .ensures .0)), (c .before .before .walk-exprs .ensures .1))
+    let p9 = p7 .before .before in
+    let p10 = p9 .before in
+    let p13 = p10 .before .before .before in
+    let read = (p9 .skip-node .ensures) ∙ (p7 .n .given .1) in
+    let i = node-in _ _ _ _ _ read in
+    (expr-walked _ _ _ _ _ _ _ _ _ _ (p10 .if1 .left) read (rw (p4 .put-place .ensures) (none-walked _ _ _ _ _ _ (omega (arith, (c .if2 .taken))))), record { short = (p13 .pre .1 .short); at-in = i .1; few = omega (arith, (p13 .pre), i) })
 
-walk-expr-returns-3 : (t : ℕ) → walk-expr-lts.Need-returns-3 (
-  read-node-reads.Asked,
-  read-node-reads.Learnt,
+walk-expr-sub-walk-exprs : (t : ℕ) → walk-expr-lts.Need-sub-walk-exprs (
+  skip-node-reads.Asked,
+  skip-node-reads.Learnt,
   put-place-reads.Asked,
   put-place-reads.Learnt,
-  children-reads.Asked,
-  children-reads.Learnt,
+  walk-exprs-below t,
+  walk-exprs.Post,
+) (walk-expr-at t) walk-expr.Post
+walk-expr-sub-walk-exprs t c =
+    let p11 = c .before .before .before .before .before .before .before .before .before .before .before in
+    let p14 = p11 .before .before .before in
+    omega (arith, (p14 .pre), (p14 .fits), (p11 .if1 .left))
+
+walk-expr-walk-exprs-requires : (t : ℕ) → walk-expr-lts.Need-walk-exprs-requires (
+  skip-node-reads.Asked,
+  skip-node-reads.Learnt,
+  put-place-reads.Asked,
+  put-place-reads.Learnt,
+  walk-exprs-below t,
+  walk-exprs.Post,
+) (walk-expr-at t) walk-expr.Post
+walk-expr-walk-exprs-requires t c κs =
+    let p8 = c .before .before .before .before .before .before .before .before in
+    let p10 = p8 .before .before in
+    let p11 = p10 .before in
+    let p14 = p11 .before .before .before in
+    let i = node-in _ _ _ _ _ ((p10 .skip-node .ensures) ∙ (p8 .n .given .1)) in
+    (omega (arith, (p14 .pre), (p11 .if1 .left)), record { short = (p14 .pre .1 .short); at-in = i .1; few = omega (arith, (p14 .pre)) })
+
+walk-expr-enum-known-k : (t : ℕ) → walk-expr-lts.Need-enum-known-k (
+  skip-node-reads.Asked,
+  skip-node-reads.Learnt,
+  put-place-reads.Asked,
+  put-place-reads.Learnt,
+  walk-exprs-below t,
+  walk-exprs.Post,
+) (walk-expr-at t) walk-expr.Post
+walk-expr-enum-known-k t c = c .match .keys2
+
+walk-expr-same-length-2 : (t : ℕ) → walk-expr-lts.Need-same-length-2 (
+  skip-node-reads.Asked,
+  skip-node-reads.Learnt,
+  put-place-reads.Asked,
+  put-place-reads.Learnt,
+  walk-exprs-below t,
+  walk-exprs.Post,
+) (walk-expr-at t) walk-expr.Post
+walk-expr-same-length-2 t c =
+    let p8 = c .before .before .before .before .before .before .before .before in
+    omega (arith, (c .before .before .walk-exprs .kept), (p8 .put-place .kept))
+
+walk-expr-returns-3 : (t : ℕ) → walk-expr-lts.Need-returns-3 (
+  skip-node-reads.Asked,
+  skip-node-reads.Learnt,
+  put-place-reads.Asked,
+  put-place-reads.Learnt,
   walk-exprs-below t,
   walk-exprs.Post,
 ) (walk-expr-at t) walk-expr.Post
 walk-expr-returns-3 t c =
+    let p8 = c .before .before .before .before .before .before .before .before in
+    let p11 = p8 .before .before .before in
+    let p13 = p11 .before .before in
+    let p14 = p13 .before in
+    (expr-walked _ _ _ _ _ _ _ _ _ _ (p14 .if1 .left) ((p13 .skip-node .ensures) ∙ (p11 .n .given .1)) (rw (p8 .put-place .ensures) (c .before .before .walk-exprs .ensures .0)), (c .before .before .walk-exprs .ensures .1))
+
+walk-expr-returns-4 : (t : ℕ) → walk-expr-lts.Need-returns-4 (
+  skip-node-reads.Asked,
+  skip-node-reads.Learnt,
+  put-place-reads.Asked,
+  put-place-reads.Learnt,
+  walk-exprs-below t,
+  walk-exprs.Post,
+) (walk-expr-at t) walk-expr.Post
+walk-expr-returns-4 t c =
     let p3 = c .before .before .before in
     let p4 = p3 .before in
-    (unread-walked _ _ _ _ _ _ _ _ _ (p4 .if1 .left) ((p3 .read-node .ensures) ∙ (c .before .k .given .1)), tt)
+    (unread-walked _ _ _ _ _ _ _ _ _ (p4 .if1 .left) ((p3 .skip-node .ensures) ∙ (c .before .k .given .1)), tt)
 
 abbrev walk-exprs-Inv-loop : walk-exprs-lts.InvT-loop
 walk-exprs-Inv-loop chunk scratch₀ varargs left count todo₀ walk₀ scratch todo walk =
@@ -341,30 +333,29 @@ walk-exprs-returns-2 t c = ((c .before .loop .inv .1 .1) _ _ (none-walked _ _ _ 
 
 pub +walk-expr+walk-exprs-spec : {M : Type 1} → statement M
 +walk-expr+walk-exprs-spec = close μ-walk-expr μ-walk-exprs (λ t. walk-expr-lts.spec (
-  read-node-reads.Asked,
-  read-node-reads.Learnt,
+  skip-node-reads.Asked,
+  skip-node-reads.Learnt,
   put-place-reads.Asked,
   put-place-reads.Learnt,
-  children-reads.Asked,
-  children-reads.Learnt,
   walk-exprs-below t,
   walk-exprs.Post,
 )
     (walk-expr-at t)
     walk-expr.Post
     (walk-expr-returns t)
-    (walk-expr-read-node-requires t)
+    (walk-expr-skip-node-requires t)
     (walk-expr-enum-known-n t)
     (walk-expr-cast-put-place t)
     (walk-expr-put-place-requires t)
-    (walk-expr-children-requires t)
     (walk-expr-add-walk-exprs t)
+    (walk-expr-same-length t)
+    (walk-expr-returns-2 t)
     (walk-expr-sub-walk-exprs t)
     (walk-expr-walk-exprs-requires t)
     (walk-expr-enum-known-k t)
-    (walk-expr-same-length t)
-    (walk-expr-returns-2 t)
-    (walk-expr-returns-3 t))
+    (walk-expr-same-length-2 t)
+    (walk-expr-returns-3 t)
+    (walk-expr-returns-4 t))
     λ t. walk-exprs-lts.spec
     (walk-expr-below t, walk-expr.Post)
     (walk-exprs-at t)

@@ -1,0 +1,66 @@
+-- `constants::find_number` meets its contract. The loop's invariant: no entry below i is the number.
+use mathlib.Core.Bool.{_&&_}
+use mathlib.Core.Logic.{⊎-elim}
+use Prim.Native.Nat.{_-_}
+use native.Mathlib.Omega.{arith}
+use lib.Dec.{eqb}
+use borrow.Author.Count.{below-none, below-more}
+use borrow.Author.Tests.{eq-eqb, ne-eqb}
+use Rattle.constants.proofs.Steps.{Passed, found-first, found-nowhere}
+use Rattle.constants.proofs.find_number.Statement.{statement}
+use Rattle.constants.proofs.find_number.Tie as tie
+
+abbrev Inv-loop : tie.InvT-loop
+Inv-loop kinds values n bits i₀ i = Passed (λ k w. eqb w bits && eqb k 3) kinds values i
+
+abbrev μ-loop : tie.MeasureT-loop
+μ-loop kinds values n bits i₀ i = n - i
+
+loop-holds : tie.Need-loop-holds Inv-loop μ-loop
+loop-holds c = below-none _
+
+mul-if1 : tie.Need-mul-if1 Inv-loop μ-loop
+mul-if1 c = omega arith
+
+shared-slice-read-if1 : tie.Need-shared-slice-read-if1 Inv-loop μ-loop
+shared-slice-read-if1 c = omega arith
+
+shared-slice-read-if2 : tie.Need-shared-slice-read-if2 Inv-loop μ-loop
+shared-slice-read-if2 c = omega arith
+
+returns : tie.Need-returns Inv-loop μ-loop
+returns c =
+    let at = c .before .before .before .before .before .loop in
+    found-first _ _ _ _ (at .i) (omega arith) (omega arith) (omega arith) (at .inv) (rw (eq-eqb _ _ (c .before .before .if1 .taken)) (eq-eqb _ _ (c .if2 .taken)))
+
+add-i : tie.Need-add-i Inv-loop μ-loop
+add-i c = omega arith
+
+loop-less : tie.Need-loop-less Inv-loop μ-loop
+loop-less c = omega arith
+
+loop-again : tie.Need-loop-again Inv-loop μ-loop
+loop-again c =
+    below-more _ _ (c .before .before .before .loop .inv)
+    (⊎-elim (λ h. rw (eq-eqb _ _ (h .0 .taken)) (ne-eqb _ _ (h .2 .left))) (λ h. rw (ne-eqb _ _ (h .left))) (c .if1 .came))
+
+returns-2 : tie.Need-returns-2 Inv-loop μ-loop
+returns-2 c =
+    let at = c .before .loop in
+    found-nowhere _ _ _ _ (at .i) (omega arith) (at .inv)
+
+pub find-number-spec : {M : Type 1} → statement M
+find-number-spec =
+    tie.close
+    (tie.spec
+    Inv-loop
+    μ-loop
+    loop-holds
+    mul-if1
+    shared-slice-read-if1
+    shared-slice-read-if2
+    returns
+    add-i
+    loop-less
+    loop-again
+    returns-2)
