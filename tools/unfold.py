@@ -2,7 +2,7 @@
 # unfold.py CRATESDIR CRATE : prints the use lines and the unfolding line that bring in every unfoldable definition of the crates below CRATE's rows
 import sys,re,glob,os
 root,crate=sys.argv[1:3]
-deps=['refusals','buffers','instructions','folding','constants','cursor','nodes','chunk','model']
+deps=['refusals','buffers','opcodes','instructions','folding','constants','cursor','ast','nodes','chunk','model']
 uses=[];names=[]
 skip=set(sys.argv[3].split(',')) if len(sys.argv)>3 else set()
 for c in deps:

@@ -11,11 +11,11 @@ use borrow.Author.Tests.{lt-ltb, le-ltb}
 use Rattle.refusals.specs.declared.Refusal.{Refusal}
 use Rattle.instructions.specs.Limits.{noReg}
 use Rattle.instructions.specs.Word.{setAOf, setBOf, setCOf, abcOf}
-use Rattle.instructions.specs.declared.OpCode.the-variants as op
+use Rattle.opcodes.specs.declared.OpCode.the-variants as op
 use Rattle.cursor.specs.Fields.{bytesOf}
 use Rattle.cursor.specs.declared.Text.{Text}
-use Rattle.nodes.specs.declared.ast.Leaf.the-variants as leaf
-use Rattle.nodes.specs.declared.ast.Many.the-variants as many
+use Rattle.ast.specs.declared.Leaf.the-variants as leaf
+use Rattle.ast.specs.declared.Many.the-variants as many
 use Rattle.chunk.specs.Headers.{namesAt}
 use Rattle.chunk.specs.Form.{namesOf}
 use Rattle.chunk.specs.declared.header.Header.{Header}
@@ -23,13 +23,12 @@ use Rattle.model.specs.declared.ExprKind.the-variants.{K, Local, Global, Indexe
 use Rattle.model.specs.declared.ExprContext.{ExprContext}
 use Rattle.model.specs.declared.State.{State}
 use Rattle.model.specs.declared.Stepped.{Stepped}
-use Rattle.model.specs.Steps.{Buffers, Step, Result, done, refused, andThen, _>>=_, _>>_, get, steppedIs}
+use Rattle.model.specs.Steps.{Buffers, bufs, Step, Result, done, refused, andThen, _>>=_, _>>_, get, steppedIs}
 use Rattle.model.specs.Descriptor.{newOf, is, isKind}
 use Rattle.model.specs.Jumps.{word}
 use Rattle.model.specs.Emission.{with-free, emit-at, emit-abc, reserve-regs}
 use Rattle.model.specs.Discharge.{change-word, free-expr, exp2nextreg, exp2anyreg, exp2rk, rk}
 use Rattle.model.specs.Expressions.{search-local, set-multret, above, emit-call, closed-call, is-open, last-argument, set-indexed, code-self, string-constant, resolved, resolve-var, leaf-expr, callee}
-use Rattle.emission.specs.Parts.{bufs}
 use Rattle.emission.specs.Laws.{branch, then-done, then-refused}
 use Rattle.calls.specs.Parts.{fresh-of, self-of, operand-of, key-of}
 

@@ -1,6 +1,6 @@
 -- Parts of the definitions that the code has functions for. Assumes nothing.
 use Prim.Native.Nat.{ℕ}
-use Rattle.instructions.specs.declared.OpCode.the-variants as op
+use Rattle.opcodes.specs.declared.OpCode.the-variants as op
 use Rattle.model.specs.declared.ExprKind.{ExprKind}
 use Rattle.model.specs.declared.ExprKind.the-variants.{NonReloc}
 use Rattle.model.specs.declared.ExprContext.{ExprContext}

@@ -11,10 +11,10 @@ use borrow.Author.Tests.{le-leb, lt-leb, eq-eqb, ne-eqb}
 use Rattle.buffers.specs.Pad.{zeros, pad, pad-none, sets-pad}
 use Rattle.refusals.specs.declared.Refusal.{Refusal}
 use Rattle.refusals.specs.declared.Refusal.the-variants as refusal
-use Rattle.chunk.specs.Ast.{Exprs, spansOf}
+use Rattle.chunk.specs.Ast.{Exprs, spansOf, placesOf}
 use Rattle.chunk.specs.Headers.{headerAt}
 use Rattle.chunk.specs.Form.{Parsed, parsed, refused, Formed, formed, refused as unformed, exprAt, exprsAt, maxLength, maxNesting, withExprs, ended, formOf}
-use Rattle.chunk.specs.Walks.{placesOf, passed, Walked, checked, out}
+use Rattle.chunk.specs.Walks.{passed, Walked, checked, out}
 use Rattle.chunk.specs.declared.header.Header.{Header}
 use Rattle.chunk.specs.declared.header.HeaderRead.the-variants as header
 use Rattle.chunk.specs.declared.form.Walk.{Walk}

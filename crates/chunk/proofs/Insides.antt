@@ -1,41 +1,27 @@
 -- A node and a header that are read lie in the bytes: each field that they have was there. By cases on what was read.
 use Prim.Native.Nat.{ℕ, _+_, _/_, _%_, _≤_}
-use mathlib.Core.Path.{_≡_, refl}
+use mathlib.Core.Path.{_≡_}
 use mathlib.Core.List.{List}
-use mathlib.Core.Bool.{Bool, true, false}
+use mathlib.Core.Bool.{Bool}
 use native.Mathlib.Omega.{arith}
 use lib.ListN.{length}
 use lib.Dec.{eqb, leb}
-use Rattle.nodes.specs.Kinds.{kindOf, mapOf}
-use Rattle.nodes.specs.Operators.{binOpOf, unOpOf}
+use Rattle.ast.specs.Kinds.{kindOf, mapOf}
+use Rattle.ast.specs.Operators.{binOpOf, unOpOf}
 use Rattle.cursor.specs.Fields.{byteAt, lineAt, bitsAt, textAt, endOf, byte-inside, line-inside, bits-inside, text-inside}
-use Rattle.nodes.specs.Nodes.{withByte, withLine, withBits, withText, withKind, withBinOp, withUnOp, require, fieldsAt, nodeAt}
+use Rattle.nodes.specs.Nodes.{fieldsAt, frontAt, withFront, nodeAt}
+use Rattle.nodes.specs.Reads.{on-byte, on-line, on-bits, on-text, on-kind, on-bin, on-un, on-require, on-test}
 use Rattle.chunk.specs.Headers.{namesAt, skipped, withSkipped, formulasAt, headerAt}
-use Rattle.nodes.specs.declared.ast.Kind.{Kind}
-use Rattle.nodes.specs.declared.ast.Kind.the-variants.{Nil, True, False, Number, Str, VarArg, Name, Binary, Unary, Index, Field, MethodCall, Call, Paren}
-use Rattle.nodes.specs.declared.ast.KindRead.{KindRead}
-use Rattle.nodes.specs.declared.ast.KindRead.the-variants as kind
-use Rattle.nodes.specs.declared.ast.BinOp.{BinOp}
-use Rattle.nodes.specs.declared.ast.BinOpRead.{BinOpRead}
-use Rattle.nodes.specs.declared.ast.BinOpRead.the-variants as bin
-use Rattle.nodes.specs.declared.ast.UnOp.{UnOp}
-use Rattle.nodes.specs.declared.ast.UnOpRead.{UnOpRead}
-use Rattle.nodes.specs.declared.ast.UnOpRead.the-variants as un
-use Rattle.cursor.specs.declared.Text.{Text}
-use Rattle.cursor.specs.declared.ByteRead.{ByteRead}
-use Rattle.cursor.specs.declared.ByteRead.the-variants.{Byte, NoByte}
-use Rattle.cursor.specs.declared.LineRead.{LineRead}
-use Rattle.cursor.specs.declared.LineRead.the-variants.{Line, NoLine}
-use Rattle.cursor.specs.declared.BitsRead.{BitsRead}
-use Rattle.cursor.specs.declared.BitsRead.the-variants.{Bits, NoBits}
-use Rattle.cursor.specs.declared.TextRead.{TextRead}
-use Rattle.cursor.specs.declared.TextRead.the-variants as text
+use Rattle.ast.specs.declared.Kind.{Kind}
+use Rattle.ast.specs.declared.Kind.the-variants.{Nil, True, False, Number, Str, VarArg, Name, Binary, Unary, Index, Field, MethodCall, Call, Paren}
+use Rattle.nodes.specs.declared.node.Front.{Front}
+use Rattle.nodes.specs.declared.node.Front.the-variants as front
 use Rattle.nodes.specs.declared.node.NodeRead.{NodeRead}
 use Rattle.nodes.specs.declared.node.NodeRead.the-variants as read
 use Rattle.nodes.specs.Extents.{extentOf}
 use Rattle.nodes.specs.declared.skip.Extent.{Extent}
-use Rattle.nodes.specs.declared.skip.Skipped.{Skipped as NodeSkipped}
-use Rattle.nodes.specs.declared.skip.Skipped.the-variants as extent
+use Rattle.nodes.specs.declared.skip.ExtentRead.{ExtentRead}
+use Rattle.nodes.specs.declared.skip.ExtentRead.the-variants as extent
 use Rattle.chunk.specs.declared.header.Header.{Header}
 use Rattle.chunk.specs.declared.header.HeaderRead.{HeaderRead}
 use Rattle.chunk.specs.declared.header.HeaderRead.the-variants as header
@@ -43,7 +29,7 @@ use Rattle.chunk.specs.declared.header.Skipped.{Skipped}
 use Rattle.chunk.specs.declared.header.Skipped.the-variants as skip
 
 -- whatever a node that is read satisfies by its extent; a refusal satisfies all
-abbrev OnExtent : (Extent → Type 0) → NodeSkipped → Type 0
+abbrev OnExtent : (Extent → Type 0) → ExtentRead → Type 0
 OnExtent P (extent.Node n) = P n
 OnExtent P (extent.Refused k) = Unit {0}
 
@@ -54,47 +40,10 @@ abbrev OnHeader : (Header → Type 0) → HeaderRead → Type 0
 OnHeader P (header.Header h) = P h
 OnHeader P (header.Refused k) = Unit {0}
 
--- what was read goes on to the rest: a law for each way to go on
-module _ {A : Type 0} (P : A → Type 0) (r : A) (no-r : P r) where
-  on-byte : (q : ByteRead) (f : ℕ → A) → ((b : ℕ) → q ≡ Byte b → P (f b)) → P (withByte q r f)
-  on-byte NoByte f h = no-r
-  on-byte (Byte b) f h = h b refl
-
-  on-line : (q : LineRead) (f : ℕ → A) → ((l : ℕ) → q ≡ Line l → P (f l)) → P (withLine q r f)
-  on-line NoLine f h = no-r
-  on-line (Line l) f h = h l refl
-
-  on-bits : (q : BitsRead) (f : ℕ → A) → ((b : ℕ) → q ≡ Bits b → P (f b)) → P (withBits q r f)
-  on-bits NoBits f h = no-r
-  on-bits (Bits b) f h = h b refl
-
-  on-text : (q : TextRead) (f : Text → A) → ((t : Text) → q ≡ text.Text t → P (f t)) → P (withText q r f)
-  on-text text.NoText f h = no-r
-  on-text (text.Text t) f h = h t refl
-
-  on-kind : (q : KindRead) (f : Kind → A) → ((k : Kind) → P (f k)) → P (withKind q r f)
-  on-kind kind.Unknown f h = no-r
-  on-kind (kind.Known k) f h = h k
-
-  on-bin : (q : BinOpRead) (f : BinOp → A) → ((o : BinOp) → P (f o)) → P (withBinOp q r f)
-  on-bin bin.Unknown f h = no-r
-  on-bin (bin.Known o) f h = h o
-
-  on-un : (q : UnOpRead) (f : UnOp → A) → ((o : UnOp) → P (f o)) → P (withUnOp q r f)
-  on-un un.Unknown f h = no-r
-  on-un (un.Known o) f h = h o
-
-  on-require : (q : Bool) (f : Unit {0} → A) → P (f tt) → P (require q r f)
-  on-require false f h = no-r
-  on-require true f h = h
-
-  on-skipped : (q : Skipped) (f : ℕ → A) → ((p : ℕ) → P (f p)) → P (withSkipped q r f)
-  on-skipped skip.Missing f h = no-r
-  on-skipped (skip.To p) f h = h p
-
-on-test : {A : Type 0} (P : A → Type 0) (q : Bool) (a b : A) → P a → P b → P (elim q [ true ↦ a | false ↦ b ])
-on-test P true a b h k = h
-on-test P false a b h k = k
+-- as the laws of `Reads`, for what a header skips
+on-skipped : {A : Type 0} (P : A → Type 0) (r : A) → P r → (q : Skipped) (f : ℕ → A) → ((p : ℕ) → P (f p)) → P (withSkipped q r f)
+on-skipped P r n skip.Missing f h = n
+on-skipped P r n (skip.To p) f h = h p
 
 module _ (s : List ℕ) where
   -- the fields' end is in the bytes, behind their start
@@ -125,17 +74,28 @@ module _ (s : List ℕ) where
   weaker a b (read.Node n) h i = (omega arith, i .1)
   weaker a b (read.Refused k) h i = tt
 
+  -- so is the fields' start
+  abbrev FrontIn : ℕ → Front → Type 0
+  FrontIn at (front.Front k from line) = (at ≤ from) × (from ≤ length s)
+  FrontIn at (front.Refused k) = Unit {0}
+
+  front-in : (at line : ℕ) → FrontIn (at + 2) (frontAt s at line)
+  front-in at line =
+      on-byte (FrontIn (at + 2)) _ tt (byteAt s at) _ λ b e.
+      on-kind (FrontIn (at + 2)) _ tt (kindOf b) _ λ k.
+      on-byte (FrontIn (at + 2)) _ tt (byteAt s (at + 1)) _ λ m g.
+      on-require (FrontIn (at + 2)) _ tt (eqb (m / 2) (mapOf k)) _
+      (on-test (FrontIn (at + 2)) (eqb (m % 2) 0) _ _
+      (omega arith, omega (arith, byte-inside s (at + 1) m g))
+      (on-line (FrontIn (at + 2)) _ tt (lineAt s (at + 2)) _ λ l i. (omega arith, omega (arith, line-inside s (at + 2) l i))))
+
+  behind-front : (va : Bool) (at : ℕ) (f : Front) → FrontIn at f → OnNode (In at) (withFront f (fieldsAt s va))
+  behind-front va at (front.Front k from line) h = weaker from at (fieldsAt s va k from line) (h .0) (fields-in va k from line (h .1))
+  behind-front va at (front.Refused k) h = tt
+
   node-all : (va : Bool) (at line : ℕ) → OnNode (In (at + 2)) (nodeAt s va at line)
   unfolding nodeAt
-  node-all va at line =
-      on-byte (OnNode (In (at + 2))) _ tt (byteAt s at) _ λ b e.
-      on-kind (OnNode (In (at + 2))) _ tt (kindOf b) _ λ k.
-      on-byte (OnNode (In (at + 2))) _ tt (byteAt s (at + 1)) _ λ m g.
-      on-require (OnNode (In (at + 2))) _ tt (eqb (m / 2) (mapOf k)) _
-      (on-test (OnNode (In (at + 2))) (eqb (m % 2) 0) _ _
-      (fields-in va k (at + 2) line (omega (arith, byte-inside s (at + 1) m g)))
-      (on-line (OnNode (In (at + 2))) _ tt (lineAt s (at + 2)) _ λ l i.
-      weaker (at + 6) (at + 2) (fieldsAt s va k (at + 6) l) (omega arith) (fields-in va k (at + 6) l (omega (arith, line-inside s (at + 2) l i)))))
+  node-all va at line = behind-front va (at + 2) (frontAt s at line) (front-in at line)
 
   pub node-in : (va : Bool) (at line : ℕ) (n : Extent) → extentOf (nodeAt s va at line) ≡ extent.Node n → (at + 2 ≤ n .next) × (n .next ≤ length s)
   node-in va at line n e = rw e at (node-all va at line)

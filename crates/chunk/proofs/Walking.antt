@@ -8,21 +8,21 @@ use native.Mathlib.Nat.{add-assoc, add-zero}
 use native.Mathlib.Numerals.{add-one}
 use lib.ListN.{length, set, length-append}
 use lib.Seq.{sets}
-use Rattle.chunk.specs.Ast.{Span, Expr, one, two, many, Exprs, more, spans, spansOf}
-use Rattle.nodes.specs.Children.{childrenOf}
+use Rattle.chunk.specs.Ast.{Span, Expr, one, two, many, Exprs, more, spans, spansOf, placesOf}
+use Rattle.ast.specs.Children.{childrenOf}
 use Rattle.nodes.specs.Nodes.{nodeAt}
 use Rattle.nodes.specs.Extents.{extentOf}
 use Rattle.chunk.specs.Form.{Parsed, parsed, refused, withParsed, withNode, exprAt, exprsAt, rest, maxNesting}
-use Rattle.chunk.specs.Walks.{placesOf, passed, Walked}
-use Rattle.nodes.specs.declared.ast.Head.{Head}
-use Rattle.nodes.specs.declared.ast.Head.the-variants as head
-use Rattle.nodes.specs.declared.ast.Node.{Node}
+use Rattle.chunk.specs.Walks.{passed, Walked}
+use Rattle.ast.specs.declared.Head.{Head}
+use Rattle.ast.specs.declared.Head.the-variants as head
+use Rattle.ast.specs.declared.Node.{Node}
 use Rattle.refusals.specs.declared.Refusal.{Refusal}
 use Rattle.refusals.specs.declared.Refusal.the-variants as refusal
 use Rattle.nodes.specs.declared.node.NodeRead.{NodeRead}
 use Rattle.nodes.specs.declared.node.NodeRead.the-variants as read
 use Rattle.nodes.specs.declared.skip.Extent.{Extent}
-use Rattle.nodes.specs.declared.skip.Skipped.the-variants as extent
+use Rattle.nodes.specs.declared.skip.ExtentRead.the-variants as extent
 use Rattle.chunk.specs.declared.form.Walk.{Walk}
 use Rattle.chunk.specs.declared.form.WalkEnd.{WalkEnd}
 use Rattle.chunk.specs.declared.form.WalkEnd.the-variants as end

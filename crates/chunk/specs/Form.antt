@@ -9,9 +9,9 @@ use Rattle.refusals.specs.declared.Refusal.the-variants as refusal
 use Rattle.chunk.specs.Ast.{Span, Expr, leaf, one, two, many, Exprs, none, more, Chunk}
 use Rattle.nodes.specs.Nodes.{nodeAt}
 use Rattle.chunk.specs.Headers.{Names, names, missing, namesAt, headerAt}
-use Rattle.nodes.specs.declared.ast.Head.{Head}
-use Rattle.nodes.specs.declared.ast.Head.the-variants as head
-use Rattle.nodes.specs.declared.ast.Node.{Node}
+use Rattle.ast.specs.declared.Head.{Head}
+use Rattle.ast.specs.declared.Head.the-variants as head
+use Rattle.ast.specs.declared.Node.{Node}
 use Rattle.cursor.specs.declared.Text.{Text}
 use Rattle.nodes.specs.declared.node.NodeRead.{NodeRead}
 use Rattle.nodes.specs.declared.node.NodeRead.the-variants as node

@@ -6,12 +6,12 @@ use mathlib.Core.Bool.{Bool, true, false}
 use lib.ListN.{length, replicate}
 use Rattle.refusals.specs.Number.{numberOf}
 use Rattle.cursor.specs.Fields.{hasBytes, byteAt, lineAt, bitsAt, textAt}
-use Rattle.nodes.specs.Kinds.{kindOf}
-use Rattle.nodes.specs.Operators.{binOpOf, unOpOf}
+use Rattle.ast.specs.Kinds.{kindOf}
+use Rattle.ast.specs.Operators.{binOpOf, unOpOf}
 use Rattle.nodes.specs.Nodes.{fieldsAt, nodeAt}
-use Rattle.nodes.specs.declared.ast.BinOp.the-variants as op
-use Rattle.nodes.specs.declared.ast.Leaf.the-variants as leaf
-use Rattle.nodes.specs.declared.ast.Two.the-variants as two
+use Rattle.ast.specs.declared.BinOp.the-variants as op
+use Rattle.ast.specs.declared.Leaf.the-variants as leaf
+use Rattle.ast.specs.declared.Two.the-variants as two
 use Rattle.chunk.specs.Ast.{Span, leaf as leafOf, two as twoOf, none, more, spans, spansOf}
 use Rattle.chunk.specs.Headers.{namesAt, formulasAt, headerAt}
 use Rattle.chunk.specs.Form.{exprsAt, rest, exprAt, Formed, formed, refused as unformed, ended, formOf}

@@ -1,21 +1,17 @@
 -- What a walk over the nodes answers and leaves in the scratch, given what is read there. Assumes nothing.
 use Prim.Native.Nat.{ℕ, _+_, _≤_}
 use mathlib.Core.Path.{_≡_}
-use mathlib.Core.List.{List, map}
+use mathlib.Core.List.{List}
 use lib.ListN.{length}
 use lib.Seq.{sets}
 use Rattle.buffers.specs.Pad.{zeros, pad}
-use Rattle.chunk.specs.Ast.{Span, spansOf}
+use Rattle.chunk.specs.Ast.{Span, spansOf, placesOf}
 use Rattle.chunk.specs.Form.{Parsed, parsed, refused, Formed, formed, refused as unformed, maxLength}
 use Rattle.chunk.specs.declared.form.Walk.{Walk}
 use Rattle.chunk.specs.declared.form.WalkEnd.{WalkEnd}
 use Rattle.chunk.specs.declared.form.WalkEnd.the-variants as end
 use Rattle.chunk.specs.declared.form.Form.{Form}
 use Rattle.chunk.specs.declared.form.Form.the-variants as form
-
--- the places of nodes
-abbrev pub placesOf : List Span → List ℕ
-placesOf ss = map (λ s. s .place) ss
 
 -- the walk that has passed these nodes
 abbrev pub passed : ℕ → ℕ → ℕ → List Span → Walk

@@ -7,7 +7,7 @@ ghost use Rattle.chunk.specs.Walks.{Walked, Inside, EndInside, checked, 
 use crate::header;
 use crate::header::HeaderRead;
 use nodes::skip;
-use nodes::skip::Skipped;
+use nodes::skip::ExtentRead;
 use refusals::Refusal;
 
 // Where a walk has come to: the place, the line of the last node, and how many nodes there were.
@@ -47,20 +47,20 @@ fn walk_expr(chunk: &[u8], scratch: &mut [u32], varargs: bool, left: usize, w: W
     let at = w.at;
     let nodes = w.nodes;
     match skip::skip_node(chunk, varargs, at, w.line) {
-        Skipped::Node(n) => {
+        ExtentRead::Node(n) => {
             put_place(scratch, nodes, at as u32);
             let next = Walk {
                 at: n.next,
                 line: n.line,
                 nodes: nodes + 1,
             };
-            // half of all nodes have no children: no call for those
+            // a node without children ends its walk here: no call
             if n.children == 0 {
                 return WalkEnd::Done(next);
             }
             walk_exprs(chunk, scratch, varargs, left - 1, n.children, next)
         }
-        Skipped::Refused(k) => WalkEnd::Refused(k),
+        ExtentRead::Refused(k) => WalkEnd::Refused(k),
     }
 }
 

@@ -8,19 +8,18 @@ use lib.ListN.{length, set}
 use Rattle.refusals.specs.declared.Refusal.{Refusal}
 use Rattle.instructions.specs.Limits.{noReg}
 use Rattle.instructions.specs.Word.{aOf, bOf, setAOf}
-use Rattle.instructions.specs.declared.OpCode.{OpCode}
-use Rattle.instructions.specs.declared.OpCode.the-variants as op
+use Rattle.opcodes.specs.declared.OpCode.{OpCode}
+use Rattle.opcodes.specs.declared.OpCode.the-variants as op
 use Rattle.model.specs.declared.ExprKind.{ExprKind}
 use Rattle.model.specs.declared.ExprKind.the-variants.{Nil, True, False, K, KNum, Local, Global, Indexed, Jmp, Relocable, NonReloc, Call, VarArg}
 use Rattle.model.specs.declared.ExprContext.{ExprContext}
 use Rattle.model.specs.declared.State.{State}
-use Rattle.model.specs.Steps.{Buffers, Step, Result, done, refused, andThen}
+use Rattle.model.specs.Steps.{Buffers, bufs, Step, Result, done, refused, andThen}
 use Rattle.model.specs.Descriptor.{is, jumps, tagOf, isKind}
 use Rattle.model.specs.Jumps.{word, jump-list, get-jump-control, concat-jumps, linked, remove-values}
 use Rattle.model.specs.Emission.{with-pc, emit-abc, emit-jump, concat, patch-to-here}
 use Rattle.model.specs.Discharge.{discharge-vars, discharge2anyreg, free-expr}
 use Rattle.model.specs.Conditions.{bit, pop, invertjump, is-not, jumponcond, jump-if-false, jump-if-true, goiftrue, goiffalse, emit-not, negate, code-not}
-use Rattle.emission.specs.Parts.{bufs}
 use Rattle.emission.specs.Laws.{branch}
 use Rattle.discharge.specs.Kinds.{kind-is}
 use Rattle.conditions.specs.Parts.{relocable, unary, tested, always-true, always-false, in-register}

@@ -1,7 +1,7 @@
 -- Parts of the definitions that the code has functions for: a word with its descriptor, that of a unary operator, a test with its jump, and what a kind alone tells of a value. Assumes nothing.
 use Prim.Native.Nat.{ℕ}
 use mathlib.Core.Bool.{Bool, true, false}
-use Rattle.instructions.specs.declared.OpCode.{OpCode}
+use Rattle.opcodes.specs.declared.OpCode.{OpCode}
 use Rattle.model.specs.declared.ExprKind.{ExprKind}
 use Rattle.model.specs.declared.ExprKind.the-variants.{Nil, True, False, K, KNum, Local, Global, Indexed, Jmp, Relocable, NonReloc, Call, VarArg}
 use Rattle.model.specs.declared.ExprContext.{ExprContext}

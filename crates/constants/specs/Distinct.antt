@@ -3,7 +3,7 @@
 use mathlib.Core.Path.{_≡_, refl, sym, ap, _∙_, subst}
 use mathlib.Core.Bool.{Bool, true, false}
 use mathlib.Core.List.{List, [], _∷_, append-assoc}
-use mathlib.Core.Option.{Option, some}
+use mathlib.Core.Option.{some}
 use Prim.Native.Nat.{ℕ, zero, suc, _+_, _*_, _/_, _%_, _^_, _≤_, _<_}
 use native.Mathlib.Nat.{zero-add, suc-add, mod-eq-of-lt}
 use native.Mathlib.Omega.{arith}
@@ -21,20 +21,12 @@ use Rattle.constants.specs.declared.Found.the-variants.{Nothing}
 use Rattle.constants.specs.declared.Found.the-variants as Found-variants
 use Rattle.constants.specs.declared.Added.{Added}
 use Rattle.constants.specs.declared.Added.the-variants.{At, Refused}
-use Rattle.constants.specs.Entry.{Constant, part, constantOf, entryOf, holds}
+use Rattle.constants.specs.Entry.{Constant, part, constantOf, entryOf, constantAt, Inside, holds}
 use Rattle.instructions.specs.Limits.{maxConstants}
 use Rattle.constants.specs.Table.{Out, out, find, full, stored, storedText, append, added}
 use Rattle.constants.specs.Laws.{holds-true, holds-false, find-at, find-nothing, not-full, not-most, added-there, added-full, added-new}
 
 -- ---- what is said
-
--- the constant of entry i
-abbrev pub constantAt : List ℕ → List ℕ → List ℕ → ℕ → Option Constant
-constantAt pool ks ws i = entryOf pool (getD ks i 0) (getD ws i 0)
-
--- the text of the value w, start × 65,536 + length, lies in the first `used` bytes
-abbrev pub Inside : ℕ → ℕ → Type 0
-Inside used w = w / 65536 + w % 65536 ≤ used
 
 -- a well-formed table
 pub record Good (t : Table) (ks ws pool : List ℕ) : Type 0 where

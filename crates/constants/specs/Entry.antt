@@ -1,9 +1,9 @@
 -- Constants and the entries that hold them (document 01, "Constants"). Assumes nothing.
-use Prim.Native.Nat.{ℕ, zero, suc, _/_, _%_}
+use Prim.Native.Nat.{ℕ, zero, suc, _+_, _/_, _%_, _≤_}
 use mathlib.Core.List.{List, [], _∷_}
 use mathlib.Core.Option.{Option, some, none}
 use mathlib.Core.Bool.{Bool, true, false}
-use lib.ListN.{take, drop}
+use lib.ListN.{getD, take, drop}
 use lib.Dec.{eqb}
 use Rattle.constants.specs.declared.Val.{Val}
 use Rattle.constants.specs.declared.Val.the-variants.{Nil, Truth, Number, Text}
@@ -34,6 +34,14 @@ entryOf pool (suc (suc zero)) w = some (truth true)
 entryOf pool (suc (suc (suc zero))) w = some (number w)
 entryOf pool (suc (suc (suc (suc zero)))) w = some (text (part pool (w / 65536) (w % 65536)))
 entryOf pool (suc (suc (suc (suc (suc k))))) w = none
+
+-- the constant of entry i
+abbrev pub constantAt : List ℕ → List ℕ → List ℕ → ℕ → Option Constant
+constantAt pool ks ws i = entryOf pool (getD ks i 0) (getD ws i 0)
+
+-- the text of the value w, start × 65,536 + length, lies in the first `used` bytes
+abbrev pub Inside : ℕ → ℕ → Type 0
+Inside used w = w / 65536 + w % 65536 ≤ used
 
 unfoldable pub sameBytes : List ℕ → List ℕ → Bool
 sameBytes [] [] = true

@@ -4,22 +4,25 @@ use mathlib.Core.Path.{_≡_, refl, sym, ap, _∙_, subst}
 use mathlib.Core.Bool.{Bool, true, false, false≢true}
 use mathlib.Core.List.{List, [], _∷_}
 use mathlib.Core.Option.{Option, some, none}
-use Prim.Native.Nat.{ℕ, zero, suc, _<_}
+use Prim.Native.Nat.{ℕ, zero, suc, _+_, _<_, _≤_}
 use native.Mathlib.Omega.{arith}
 use lib.ListN.{length, getD}
 use lib.Dec.{eqb, leb}
 use borrow.Author.Tests.{eqb-true, eqb-false, eq-eqb, ne-eqb, leb-false}
 use Rattle.laws.specs.Truth.{or-false}
 use Rattle.constants.specs.declared.Val.{Val}
+use Rattle.constants.specs.declared.Val.the-variants as val
 use Rattle.constants.specs.declared.Table.{Table}
 use Rattle.constants.specs.declared.Added.{Added}
 use Rattle.constants.specs.declared.Added.the-variants as Added-variants
+use Rattle.refusals.specs.Number.{numberOf}
+use Rattle.refusals.specs.declared.Refusal.{Refusal}
 use Rattle.refusals.specs.declared.Refusal.the-variants.{Constants}
 use Rattle.constants.specs.declared.Found.{Found}
 use Rattle.constants.specs.declared.Found.the-variants.{At, Nothing}
 use Rattle.instructions.specs.Limits.{maxConstants}
-use Rattle.constants.specs.Entry.{Constant, nil, truth, number, text, constantOf, entryOf, sameBytes, sameTruth, same, isConstant, holds}
-use Rattle.constants.specs.Table.{find, later, full, out, append, added}
+use Rattle.constants.specs.Entry.{Constant, nil, truth, number, text, constantOf, entryOf, part, sameBytes, sameTruth, same, isConstant, holds}
+use Rattle.constants.specs.Table.{find, later, full, Out, out, storedText, append, added}
 
 unless-true : (t : Bool) → (t ≡ true → ⊥) → t ≡ false
 unless-true true n = absurd (n refl)
@@ -213,3 +216,32 @@ module _ (chunk : List ℕ) (t : Table) (v : Val) (ks ws pool : List ℕ) {f : F
     pub added-new : {r : Added} {ks′ ws′ pool′ : List ℕ} → b ≡ false → append chunk t v ks ws pool ≡ out r ks′ ws′ pool′ → added chunk t v ks ws pool ≡ out r ks′ ws′ pool′
     unfolding added
     added-new e h = rw (search ∙ nowhere, test ∙ e, added) h
+
+-- ---- refusals of adding
+
+abbrev Late : Added → Type 0
+Late (Added-variants.At i b) = Unit {0}
+Late (Added-variants.Refused r) = 10 ≤ numberOf r
+
+late-text : (fits : Bool) (b : Table) (bytes ks ws pool : List ℕ) → Late (storedText fits b bytes ks ws pool .answer)
+late-text true b bytes ks ws pool = tt
+late-text false b bytes ks ws pool = omega arith
+
+late-append : (chunk : List ℕ) (b : Table) (v : Val) (ks ws pool : List ℕ) → Late (append chunk b v ks ws pool .answer)
+unfolding append
+late-append chunk b val.Nil ks ws pool = tt
+late-append chunk b (val.Truth false) ks ws pool = tt
+late-append chunk b (val.Truth true) ks ws pool = tt
+late-append chunk b (val.Number x n) ks ws pool = tt
+late-append chunk b (val.Text s n) ks ws pool = late-text (leb (b .used + length (part chunk s n)) (length pool)) b (part chunk s n) ks ws pool
+
+-- adding refuses with 11 or 12, which are above 9
+pub late-added : (chunk : List ℕ) (b : Table) (v : Val) (ks ws pool : List ℕ) (r : Refusal) → added chunk b v ks ws pool .answer ≡ Added-variants.Refused r → 10 ≤ numberOf r
+unfolding added
+late-added chunk b v ks ws pool r e = subst Late e (go (find (holds pool chunk v) (b .count) ks ws) (full (b .count) ks ws))
+  where
+    go : (f : Found) (x : Bool) →
+        Late (elim f as (λ (_ : Found). Out) [ At i ↦ out (Added-variants.At i b) ks ws pool | Nothing ↦ elim x as (λ (_ : Bool). Out) [ true ↦ out (Added-variants.Refused Constants) ks ws pool | false ↦ append chunk b v ks ws pool ] ] .answer)
+    go (At i) x = tt
+    go Nothing true = omega arith
+    go Nothing false = late-append chunk b v ks ws pool

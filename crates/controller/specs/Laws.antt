@@ -9,9 +9,9 @@ use Rattle.model.specs.declared.Counts.{Counts}
 use Rattle.model.specs.declared.Lowered.{Lowered}
 use Rattle.model.specs.declared.Lowered.the-variants as answer
 use Rattle.model.specs.Steps.{Buffers}
-use Rattle.model.specs.Claims.{Padded, Faithful}
+use Rattle.model.specs.Claims.{Padded, Faithful, Lowers}
 use Rattle.model.specs.Lowering.{Sizes, Out, out}
-use Rattle.controller.specs.Told.{telling, numberFor, countsFor, told}
+use Rattle.controller.specs.Told.{telling, numberFor, countsFor, told, Tells}
 
 four-set : (n a b c d : ℕ) → set (set (set (set (zeros n) 0 a) 1 b) 2 c) 3 d ≡ pad n (a ∷ b ∷ c ∷ d ∷ [])
 four-set n a b c d =
@@ -28,9 +28,13 @@ module _ {r : Lowered} (n : ℕ) {l : List ℕ} (clear : zeros n ≡ l) where
   tell-refused e q = (ap numberFor e ∙ q, ap (λ r. pad n (countsFor r)) e ∙ pad-none n ∙ clear)
 
 -- an answer told
-pub told-is : (n : ℕ) {o : Out} (r : Lowered) {m : Buffers} {s l : List ℕ} {x : ℕ} → o ≡ out r m s → (numberFor r ≡ x) × (pad n (countsFor r) ≡ l) → told n o ≡ telling x m s l
+told-is : (n : ℕ) {o : Out} (r : Lowered) {m : Buffers} {s l : List ℕ} {x : ℕ} → o ≡ out r m s → (numberFor r ≡ x) × (pad n (countsFor r) ≡ l) → told n o ≡ telling x m s l
 told-is n r {m} {s} {x = x} e (p, q) = ap (told n) e ∙ ap (λ x. telling x m s (pad n (countsFor r))) p ∙ ap (λ l. telling x m s l) q
 
 -- the clauses for demands 1 and 3, of the answer told
-pub clauses-told : (z : Sizes) (chunk : List ℕ) {o : Out} (r : Lowered) {m : Buffers} {s : List ℕ} → o ≡ out r m s → Padded z chunk r m s × Faithful chunk r m → Padded z chunk (o .answer) m s × Faithful chunk (o .answer) m
+clauses-told : (z : Sizes) (chunk : List ℕ) {o : Out} (r : Lowered) {m : Buffers} {s : List ℕ} → o ≡ out r m s → Padded z chunk r m s × Faithful chunk r m → Padded z chunk (o .answer) m s × Faithful chunk (o .answer) m
 clauses-told z chunk r {m} {s} e f = subst (λ r. Padded z chunk r m s × Faithful chunk r m) (sym (ap (λ o. o .answer) e)) f
+
+-- all that is promised of what is told, from what `lower` and `tell` promise
+pub tells : (n : ℕ) (z : Sizes) (chunk : List ℕ) (r : Lowered) {m : Buffers} {s l : List ℕ} {x : ℕ} → Lowers z chunk r m s → (numberFor r ≡ x) × (pad n (countsFor r) ≡ l) → Tells n z chunk x m s l
+tells n z chunk r (e, f) t = (told-is n r e t, clauses-told z chunk r e f)

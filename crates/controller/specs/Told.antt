@@ -1,12 +1,14 @@
--- What a controller is told of a lowering: a number, and the counts in a buffer of its own. Assumes nothing.
+-- What a controller is told of a lowering: a number, and the counts in a buffer of its own; and what is promised of these. Assumes nothing.
 use Prim.Native.Nat.{ℕ}
+use mathlib.Core.Path.{_≡_}
 use mathlib.Core.List.{List, [], _∷_}
 use Rattle.refusals.specs.Number.{numberOf}
 use Rattle.buffers.specs.Pad.{pad}
 use Rattle.model.specs.declared.Lowered.{Lowered}
 use Rattle.model.specs.declared.Lowered.the-variants as answer
 use Rattle.model.specs.Steps.{Buffers}
-use Rattle.model.specs.Lowering.{Out}
+use Rattle.model.specs.Claims.{Padded, Faithful}
+use Rattle.model.specs.Lowering.{Sizes, Out, lowered}
 
 -- the answer, and what each lent buffer then holds, whole
 pub record Told : Type 0 where
@@ -31,3 +33,7 @@ countsFor (answer.Refused k) = []
 -- a lowering as it is told with a buffer for n counts: as many of the four as fit, then zeros
 abbrev pub told : ℕ → Out → Told
 told n o = telling (numberFor (o .answer)) (o .buffers) (o .scratch) (pad n (countsFor (o .answer)))
+
+-- all that is promised of a lowering as it is told with a buffer for n counts: the number and every buffer are those of the definition, whole; and, of these, demands 1 and 3
+abbrev pub Tells : ℕ → Sizes → List ℕ → ℕ → Buffers → List ℕ → List ℕ → Type 0
+Tells n z chunk number m scratch counts = (told n (lowered z chunk) ≡ telling number m scratch counts) × (Padded z chunk (lowered z chunk .answer) m scratch × Faithful chunk (lowered z chunk .answer) m)

@@ -2,10 +2,9 @@
 ghost use mathlib.Core.Path.{_≡_};
 ghost use lib.ListN.{length, set};
 ghost use Rattle.buffers.specs.Pad.{pad};
-ghost use Rattle.model.specs.Claims.{sizes, Padded, Faithful};
-ghost use Rattle.model.specs.Lowering.{lowered};
-ghost use Rattle.emission.specs.Parts.{bufs};
-ghost use Rattle.controller.specs.Told.{numberFor, countsFor, told, telling};
+ghost use Rattle.model.specs.Claims.{sizes};
+ghost use Rattle.model.specs.Steps.{bufs};
+ghost use Rattle.controller.specs.Told.{numberFor, countsFor, Tells};
 use buffers::clear_values;
 use lowering::lower;
 use model::Lowered;
@@ -48,7 +47,7 @@ pub extern "C" fn fuchsiarasp_lower(
     scratch: &mut [u32],
     counts: &mut [u64],
 ) -> u32
-    ensures { λ r. ⌜ (told (length (now (counts .entry))) (lowered (sizes (bufs (now (code .entry)) (now (lines .entry)) (now (kinds .entry)) (now (values .entry)) (now (pool .entry))) (length (now (scratch .entry)))) (now (chunk .entry))) ≡ telling r (bufs (now (code .exit)) (now (lines .exit)) (now (kinds .exit)) (now (values .exit)) (now (pool .exit))) (now (scratch .exit)) (now (counts .exit))) × (Padded (sizes (bufs (now (code .entry)) (now (lines .entry)) (now (kinds .entry)) (now (values .entry)) (now (pool .entry))) (length (now (scratch .entry)))) (now (chunk .entry)) (lowered (sizes (bufs (now (code .entry)) (now (lines .entry)) (now (kinds .entry)) (now (values .entry)) (now (pool .entry))) (length (now (scratch .entry)))) (now (chunk .entry)) .answer) (bufs (now (code .exit)) (now (lines .exit)) (now (kinds .exit)) (now (values .exit)) (now (pool .exit))) (now (scratch .exit)) × Faithful (now (chunk .entry)) (lowered (sizes (bufs (now (code .entry)) (now (lines .entry)) (now (kinds .entry)) (now (values .entry)) (now (pool .entry))) (length (now (scratch .entry)))) (now (chunk .entry)) .answer) (bufs (now (code .exit)) (now (lines .exit)) (now (kinds .exit)) (now (values .exit)) (now (pool .exit)))) ⌝ }
+    ensures { λ r. ⌜ Tells (length (now (counts .entry))) (sizes (bufs (now (code .entry)) (now (lines .entry)) (now (kinds .entry)) (now (values .entry)) (now (pool .entry))) (length (now (scratch .entry)))) (now (chunk .entry)) r (bufs (now (code .exit)) (now (lines .exit)) (now (kinds .exit)) (now (values .exit)) (now (pool .exit))) (now (scratch .exit)) (now (counts .exit)) ⌝ }
 {
     let answer = lower(chunk, code, lines, kinds, values, pool, scratch);
     tell(answer, counts)

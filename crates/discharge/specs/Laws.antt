@@ -9,7 +9,7 @@ use borrow.Author.Tests.{eq-eqb, ne-eqb, le-leb, lt-leb}
 use Rattle.refusals.specs.declared.Refusal.{Refusal}
 use Rattle.instructions.specs.Limits.{maxIndexRk}
 use Rattle.instructions.specs.Word.{aOf, setAOf, setBOf, setCOf}
-use Rattle.instructions.specs.declared.OpCode.the-variants as op
+use Rattle.opcodes.specs.declared.OpCode.the-variants as op
 use Rattle.constants.specs.declared.Val.the-variants as val
 use Rattle.model.specs.declared.ExprKind.{ExprKind}
 use Rattle.model.specs.declared.ExprKind.the-variants.{Nil, True, False, K, KNum, Local, Global, Indexed, Jmp, Relocable, NonReloc, Call, VarArg}
@@ -17,12 +17,11 @@ use Rattle.model.specs.declared.ExprContext.{ExprContext}
 use Rattle.model.specs.declared.State.{State}
 use Rattle.model.specs.declared.Given.{Given}
 use Rattle.model.specs.declared.Described.{Described}
-use Rattle.model.specs.Steps.{Buffers, Step, Result, done, refused, andThen, skip, givenIs, describedIs}
+use Rattle.model.specs.Steps.{Buffers, bufs, Step, Result, done, refused, andThen, skip, givenIs, describedIs}
 use Rattle.model.specs.Descriptor.{is, jumps, has-jumps, isKind}
 use Rattle.model.specs.Jumps.{word, concat-jumps, linked, jump-list, need-value, patch-list-aux}
 use Rattle.model.specs.Emission.{concat, emit-jump, code-label, patch-to-here, get-label, emit-abc, emit-abx, emit-nil, alloc-reg, free-reg, add-constant}
 use Rattle.model.specs.Discharge.{discharge-kind, discharge-vars, free-expr, number-constant, load-kind, move, discharge2reg, discharge2anyreg, land, load-both, settle, join-jump, exp2reg, exp2nextreg, exp2anyreg, exp2val, small, near, rk-kind, exp2rk}
-use Rattle.emission.specs.Parts.{bufs}
 use Rattle.emission.specs.Laws.{branch}
 use Rattle.discharge.specs.Kinds.{kind-is, put, give, over-of, load-yes, load-no, placed, next-of, any-of, constant-of}
 

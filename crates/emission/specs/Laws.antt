@@ -14,16 +14,16 @@ use Rattle.refusals.specs.declared.Refusal.the-variants.{Words, Registers}
 use Rattle.instructions.specs.Limits.{noReg, bitRk, maxWords, maxStack, aSize, bSize, cSize, bxSize}
 use Rattle.instructions.specs.Field.{setAt}
 use Rattle.instructions.specs.Word.{bOf, abcOf, aBxOf, aSbxOf, setBOf}
-use Rattle.instructions.specs.declared.OpCode.{OpCode}
-use Rattle.instructions.specs.declared.OpCode.the-variants.{LoadBool, LoadNil, Jmp}
+use Rattle.opcodes.specs.declared.OpCode.{OpCode}
+use Rattle.opcodes.specs.declared.OpCode.the-variants.{LoadBool, LoadNil, Jmp}
 use Rattle.constants.specs.Table.{added, out}
 use Rattle.constants.specs.declared.Val.{Val}
 use Rattle.constants.specs.declared.Added.{Added}
 use Rattle.model.specs.declared.State.{State}
-use Rattle.model.specs.Steps.{Buffers, Step, Result, done, refused, andThen, change, change-words, skip, refuse}
+use Rattle.model.specs.Steps.{Buffers, bufs, Step, Result, done, refused, andThen, change, change-words, skip, refuse}
 use Rattle.model.specs.Jumps.{word, concat-jumps, linked, remove-values, patch-list-aux}
 use Rattle.model.specs.Emission.{with-pc, with-free, with-frame, with-jpc, discharge-jpc, no-room, store, push, emit-at, emit, emit-abc, concat, emit-jump, patch-to-here, get-label, code-label, adjoins, load-nil, emit-nil, check-stack, reserve-regs, alloc-reg, free-reg, keep, add-constant}
-use Rattle.emission.specs.Parts.{bufs, labelled, freed-to}
+use Rattle.emission.specs.Parts.{labelled, freed-to}
 
 -- if then else
 abbrev pub branch : {A : Type 0} → Bool → Step A → Step A → Step A

@@ -3,14 +3,13 @@
 ghost use mathlib.Core.List.{List};
 ghost use mathlib.Core.Path.{_≡_};
 ghost use Prim.Native.Nat.{ℕ, _+_};
-ghost use Rattle.model.specs.Steps.{Buffers, done, steppedIs, givenIs};
+ghost use Rattle.model.specs.Steps.{Buffers, bufs, done, steppedIs, givenIs};
 ghost use Rattle.model.specs.Emission.{with-pc, with-free, with-frame, with-jpc, with-label, discharge-jpc, push as pushOf, emit-at, emit as emitOf, emit-abc, emit-abx, emit-jump, patch-to-here, get-label, code-label, adjoins as adjoinsOf, load-nil, emit-nil, check-stack, reserve-regs, alloc-reg, free-reg, with-table, keep as keepOf, add-constant};
-ghost use Rattle.emission.specs.Parts.{bufs, freed-to};
+ghost use Rattle.emission.specs.Parts.{freed-to};
 use constants::Added;
 use constants::Table;
 use constants::Val;
 use instructions::Instruction;
-use instructions::OpCode;
 use jumps::concat_jumps;
 use jumps::patch_list_aux;
 use jumps::put_word;
@@ -19,6 +18,7 @@ use jumps::word_at;
 use model::Given;
 use model::State;
 use model::Stepped;
+use opcodes::OpCode;
 use refusals::Refusal;
 
 // ---- the state with another field
@@ -219,7 +219,7 @@ pub fn patch_to_here(code: &mut [u32], st: State, list: usize) -> State
     with_jpc(st, l)
 }
 
-// The word to come, st.pc, recorded as a label; past 131,071 words, where none is to come, nothing is recorded.
+// The word to come, st.pc, recorded as a label; at a place above 131,071, which no code reaches, nothing is recorded.
 pub fn get_label(st: State) -> State
     ensures { λ r. ⌜ ((m : Buffers) → get-label st m ≡ done (st .pc) r m) ⌝ }
 {
@@ -296,7 +296,7 @@ pub fn emit_nil(code: &mut [u32], lines: &mut [u32], st: State, from: usize) -> 
 
 // ---- constants
 
-// The state with the table that was answered. The table's own functions take no state: copying one at each call took a tenth of the time.
+// The state with the table that was answered. The table's own functions take no state, or one would be copied at each call.
 pub fn keep(st: State, answer: Added) -> Given
     ensures { λ r. ⌜ ((m : Buffers) → keepOf answer st m ≡ givenIs r m) ⌝ }
 {

@@ -6,10 +6,10 @@ use mathlib.Core.Path.{_≡_}
 use native.Mathlib.Omega.{arith}
 use types.Run.{OneOf}
 use denote.Enum.Declared.{tagOf}
-use Rattle.nodes.proofs.ast.Head as numbered
-use Rattle.nodes.specs.declared.ast.Leaf.{Leaf}
-use Rattle.nodes.specs.declared.ast.Head.{Head}
-use Rattle.nodes.specs.declared.ast.Head.the-variants as head
+use Rattle.ast.proofs.Head as numbered
+use Rattle.ast.specs.declared.Leaf.{Leaf}
+use Rattle.ast.specs.declared.Head.{Head}
+use Rattle.ast.specs.declared.Head.the-variants as head
 
 pub inner : (x : Head) → OneOf (1 ∷ 2 ∷ 3 ∷ []) (tagOf numbered.the-type x) → (l : Leaf) → x ≡ head.Leaf l → ⊥
 inner (head.Leaf k) (inl n) l e = omega (arith, n)

@@ -4,11 +4,11 @@ use mathlib.Core.List.{List}
 use mathlib.Core.Path.{_≡_, refl, ap, _∙_}
 use Rattle.refusals.specs.declared.Refusal.{Refusal}
 use Rattle.cursor.specs.declared.Text.{Text}
-use Rattle.nodes.specs.declared.ast.BinOp.{BinOp}
-use Rattle.nodes.specs.declared.ast.UnOp.{UnOp}
-use Rattle.nodes.specs.declared.ast.One.the-variants as one
-use Rattle.nodes.specs.declared.ast.Two.the-variants as two
-use Rattle.nodes.specs.declared.ast.Head.{Head}
+use Rattle.ast.specs.declared.BinOp.{BinOp}
+use Rattle.ast.specs.declared.UnOp.{UnOp}
+use Rattle.ast.specs.declared.One.the-variants as one
+use Rattle.ast.specs.declared.Two.the-variants as two
+use Rattle.ast.specs.declared.Head.{Head}
 use Rattle.chunk.specs.declared.header.Header.{Header}
 use Rattle.model.specs.declared.ExprContext.{ExprContext}
 use Rattle.model.specs.declared.State.{State}

@@ -1,8 +1,8 @@
 -- A part of `compile-head` that the code has a function for: what follows the first sub-expression. Assumes nothing.
 use Prim.Native.Nat.{ℕ}
 use mathlib.Core.List.{List}
-use Rattle.nodes.specs.declared.ast.Head.{Head}
-use Rattle.nodes.specs.declared.ast.Head.the-variants as head
+use Rattle.ast.specs.declared.Head.{Head}
+use Rattle.ast.specs.declared.Head.the-variants as head
 use Rattle.chunk.specs.declared.header.Header.{Header}
 use Rattle.model.specs.declared.ExprContext.{ExprContext}
 use Rattle.model.specs.Steps.{Step, return}

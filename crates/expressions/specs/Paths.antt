@@ -6,13 +6,13 @@ use native.Mathlib.Omega.{arith}
 use Rattle.refusals.specs.declared.Refusal.{Refusal}
 use Rattle.refusals.specs.declared.Refusal.the-variants.{Nesting}
 use Rattle.nodes.specs.Nodes.{nodeAt}
-use Rattle.nodes.specs.declared.ast.Leaf.{Leaf}
-use Rattle.nodes.specs.declared.ast.One.{One}
-use Rattle.nodes.specs.declared.ast.Two.{Two}
-use Rattle.nodes.specs.declared.ast.Many.{Many}
-use Rattle.nodes.specs.declared.ast.Head.{Head}
-use Rattle.nodes.specs.declared.ast.Head.the-variants as head
-use Rattle.nodes.specs.declared.ast.Node.{Node}
+use Rattle.ast.specs.declared.Leaf.{Leaf}
+use Rattle.ast.specs.declared.One.{One}
+use Rattle.ast.specs.declared.Two.{Two}
+use Rattle.ast.specs.declared.Many.{Many}
+use Rattle.ast.specs.declared.Head.{Head}
+use Rattle.ast.specs.declared.Head.the-variants as head
+use Rattle.ast.specs.declared.Node.{Node}
 use Rattle.nodes.specs.declared.node.NodeRead.{NodeRead}
 use Rattle.nodes.specs.declared.node.NodeRead.the-variants as read
 use Rattle.chunk.specs.declared.header.Header.{Header}

@@ -10,11 +10,10 @@ use Rattle.refusals.specs.declared.Refusal.{Refusal}
 use Rattle.refusals.specs.declared.Refusal.the-variants as refusal
 use Rattle.cursor.specs.Fields.{byteAt, textAt, endOf}
 use Rattle.cursor.specs.declared.Text.{Text}
-use Rattle.cursor.specs.declared.ByteRead.{ByteRead}
-use Rattle.cursor.specs.declared.ByteRead.the-variants.{Byte, NoByte}
 use Rattle.cursor.specs.declared.TextRead.{TextRead}
 use Rattle.cursor.specs.declared.TextRead.the-variants as text
 use Rattle.nodes.specs.Nodes.{withByte, withText, require}
+use Rattle.nodes.specs.Reads.{on-byte, on-require}
 use Rattle.chunk.specs.Ast.{Exprs, Chunk}
 use Rattle.chunk.specs.Headers.{maxLocals, Names, names, missing, before, namesAt, skipped, withSkipped, formulasAt, headerAt}
 use Rattle.chunk.specs.Form.{maxLength, maxNesting, Parsed, parsed, refused, exprsAt, exprAt, Formed, formed, refused as unformed, withHeader, withExprs, namesOf, ended, formOf}
@@ -77,17 +76,9 @@ module _ (s : List ℕ) where
   Named (header.Header h) = length (namesOf (namesAt s (h .locals) (h .names))) ≡ h .locals
   Named (header.Refused k) = Unit {0}
 
-  named-byte : (x : ByteRead) (k : Refusal) (f : ℕ → HeaderRead) → ((n : ℕ) → Named (f n)) → Named (withByte x (header.Refused k) f)
-  named-byte NoByte k f g = tt
-  named-byte (Byte n) k f g = g n
-
-  named-require : (x : Bool) (k : Refusal) (f : Unit {0} → HeaderRead) → Named (f tt) → Named (require x (header.Refused k) f)
-  named-require true k f g = g
-  named-require false k f g = tt
-
   named-formulas : (locals place : ℕ) (va : Bool) (at : ℕ) → length (namesOf (namesAt s locals place)) ≡ locals → Named (formulasAt s locals place va at)
   unfolding formulasAt
-  named-formulas locals place va at e = named-byte (byteAt s at) _ _ (λ n. e)
+  named-formulas locals place va at e = on-byte Named _ tt (byteAt s at) _ (λ n f. e)
 
   named-skipped : (n : ℕ) (r : Skipped) (k : Refusal) (va : Bool) → skipped (namesAt s n 2) ≡ r → Named (withSkipped r (header.Refused k) (λ at. formulasAt s n 2 va at))
   named-skipped n skip.Missing k va e = tt
@@ -99,11 +90,11 @@ module _ (s : List ℕ) where
 
   named : Named (headerAt s)
   unfolding headerAt
-  named = named-byte (byteAt s 0) _ _ (λ m. named-require (leb m 3) _ _ (go m (eqb (m % 2) 0)))
+  named = on-byte Named _ tt (byteAt s 0) _ (λ m f. on-require Named _ tt (leb m 3) _ (go m (eqb (m % 2) 0)))
     where
       go : (m : ℕ) (t : Bool) → Named (elim t as (λ (_ : Bool). HeaderRead) [ true ↦ formulasAt s 0 1 (leb 2 m) 1 | false ↦ withByte (byteAt s 1) (header.Refused refusal.Missing) (λ n. require (leb n maxLocals) (header.Refused refusal.Locals) (λ _. withSkipped (skipped (namesAt s n 2)) (header.Refused refusal.Missing) (λ at. formulasAt s n 2 (leb 2 m) at))) ])
       go m true = named-formulas 0 1 (leb 2 m) 1 no-names
-      go m false = named-byte (byteAt s 1) _ _ (λ n. named-require (leb n maxLocals) _ _ (named-skipped n (skipped (namesAt s n 2)) refusal.Missing (leb 2 m) refl))
+      go m false = on-byte Named _ tt (byteAt s 1) _ (λ n f. on-require Named _ tt (leb n maxLocals) _ (named-skipped n (skipped (namesAt s n 2)) refusal.Missing (leb 2 m) refl))
 
   pub header-names : (h : Header) → headerAt s ≡ header.Header h → length (namesOf (namesAt s (h .locals) (h .names))) ≡ h .locals
   header-names h e = subst Named e named

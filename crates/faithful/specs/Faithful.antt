@@ -5,13 +5,13 @@ use mathlib.Core.Path.{_≡_, refl, sym, ap, _∙_, subst}
 use mathlib.Core.List.{List, [], _∷_}
 use native.Mathlib.Omega.{arith}
 use lib.ListN.{length, take}
-use Rattle.chunk.specs.Ast.{Chunk, spansOf}
+use Rattle.chunk.specs.Ast.{Chunk, spansOf, placesOf}
 use Rattle.chunk.specs.Form.{formed, formOf, exprAt, maxNesting}
-use Rattle.chunk.specs.Walks.{placesOf}
 use Rattle.refusals.specs.declared.Refusal.{Refusal}
+use Rattle.refusals.specs.declared.Refusal.the-variants as refusal
 use Rattle.instructions.specs.Limits.{maxConstants}
 use Rattle.instructions.specs.Word.{abcOf}
-use Rattle.instructions.specs.declared.OpCode.the-variants as op
+use Rattle.opcodes.specs.declared.OpCode.the-variants as op
 use Rattle.model.specs.declared.Counts.{Counts}
 use Rattle.model.specs.declared.Lowered.the-variants as answer
 use Rattle.model.specs.declared.State.{State}
@@ -21,7 +21,7 @@ use Rattle.model.specs.Running.{returned, run}
 use Rattle.model.specs.Jumps.{word}
 use Rattle.model.specs.Steps.{Buffers, Result}
 use Rattle.model.specs.Claims.{program, Runs-as-read}
-use Rattle.model.specs.Lowering.{Sizes, cleared, start, lower-chunk, Out, refusal-of, ended, lowered}
+use Rattle.model.specs.Lowering.{Sizes, cleared, start, lower-chunk, Out, refusal-of, ended, lowered, counts-of}
 use Rattle.labelled.specs.Code.{size}
 use Rattle.labelled.specs.Machine.{span}
 use Rattle.labelled.specs.Emission.{St}
@@ -34,25 +34,17 @@ use Rattle.threads.specs.Coded.{coded}
 use Rattle.simulation.specs.Texts.{Bytes}
 use Rattle.simulation.specs.Whole.{Lowers-to, count-is, whole-lowered}
 use Rattle.running.specs.Run.{ran}
+use Rattle.faithful.specs.Counted.{take-entry, counted}
 use Rattle.faithful.specs.Accepted.{Accepted, header-names}
 use Rattle.faithful.specs.Cases.{lowered-cases}
 
 -- the words that are run
-take-word : (n : ℕ) (l : List ℕ) (q : ℕ) → q < n → word (take n l) q ≡ word l q
-take-word zero l q h = absurd (omega arith)
-take-word (suc n) [] q h = refl
-take-word (suc n) (x ∷ l) zero h = refl
-take-word (suc n) (x ∷ l) (suc q) h = take-word n l q (omega arith)
-
 take-length : (n : ℕ) (l : List ℕ) → n ≤ length l → length (take n l) ≡ n
 take-length zero l h = refl
 take-length (suc n) [] h = absurd (omega arith)
 take-length (suc n) (x ∷ l) h = ap suc (take-length n l (omega arith))
 
 module _ (chunk : List ℕ) (c : Chunk) (w : World) (locals varargs : List Value) where
-  abbrev counts : State → Counts
-  counts s = record { words = s .pc; constants = s .table .count; text = s .table .used; frame = s .frame }
-
   -- what is shown of an outcome
   abbrev Good : Counts → Out → Type 0
   Good k o = o .answer ≡ answer.Done k → Runs-as-read chunk c w locals varargs k (o .buffers)
@@ -65,14 +57,14 @@ module _ (chunk : List ℕ) (c : Chunk) (w : World) (locals varargs : List Value
     σ = labelled chunk (c .names) (c .formulas)
 
     -- what the simulation gives is what the run of words asks for
-    from-labelled : (s : State) (m : Buffers) → Lowers-to s m (σ .code) σ (a .head .locals) (a .head .formulas) → Runs-as-read chunk c w locals varargs (counts s) m
+    from-labelled : (s : State) (m : Buffers) → Lowers-to s m (σ .code) σ (a .head .locals) (a .head .formulas) → Runs-as-read chunk c w locals varargs (counts-of s) m
     from-labelled s m L =
         let E = whole w chunk (c .names) locals varargs each (c .formulas) in
-        let same-word : (q : ℕ) → q < s .pc → word (take (s .pc) (m .code)) q ≡ word (m .code) q = take-word (s .pc) (m .code) in
+        let same-word : (q : ℕ) → q < s .pc → word (take (s .pc) (m .code)) q ≡ word (m .code) q = take-entry (s .pc) (m .code) in
         let long : length (take (s .pc) (m .code)) ≡ s .pc = take-length (s .pc) (m .code) (L .fits) in
         let formulas-are : count (c .formulas) ≡ a .head .formulas = count-is (exprAt chunk (a .head .varargs) maxNesting) (a .head .formulas) (c .formulas) (a .head .next) 1 (a .at) (a .line) (a .formulas) in
         let names-are : length (c .names) ≡ a .head .locals = ap length (a .names-are) ∙ header-names chunk (a .head) (a .is-head) in
-        let r = ran w (program (counts s) m) (σ .tab) locals varargs (L .table .count) (subst (λ n. n ≤ maxConstants) (L .table .count) (L .table .few)) (L .table .entries) (L .most)
+        let r = ran w (program (counts-of s) m) (σ .tab) locals varargs (L .table .count) (subst (λ n. n ≤ maxConstants) (L .table .count) (L .table .few)) (λ i l. let n : i < s .table .count = omega (arith, L .table .count) in counted (s .table .count) (s .table .used) (m .pool) (m .kinds) (m .values) i n (L .table .good .texts i n) ∙ L .table .entries i l) (L .most)
         (σ .code) (E .registers) (reading w chunk c locals varargs .steps) (a .head .locals) (a .head .formulas)
         (enc-agree (coded (σ .tab) (s .frame)) (m .code) (take (s .pc) (m .code)) (σ .code) (λ q l. same-word q (omega (arith, L .words))) (L .enc))
         (L .low) (omega (arith, long, L .words)) (E .ends) (same-word (size (σ .code)) (omega (arith, L .words)) ∙ L .return-word ∙ ap (λ n. abcOf op.Return (a .head .locals) n 0) (omega arith)) (L .room) in
@@ -81,13 +73,13 @@ module _ (chunk : List ℕ) (c : Chunk) (w : World) (locals varargs : List Value
 
     -- of the end of a lowering, where its answer is counts
     ended-good : (z : Sizes) (k : Counts) (places : List ℕ) (r : Result (Unit {0})) → Ends r (λ u s m. Lowers-to s m (σ .code) σ (a .head .locals) (a .head .formulas)) → Good k (ended z places r)
-    ended-good z k places r (refuses x m e) = subst (λ y. Good k (ended z places y)) (sym e) (refused-good z k x)
-    ended-good z k places r (gives tt s m e L) = subst (λ y. Good k (ended z places y)) (sym e) (λ d. let u : counts s ≡ k = cc in subst (λ y. Runs-as-read chunk c w locals varargs y m) u (from-labelled s m L))
+    ended-good z k places r (refuses x m l e) = subst (λ y. Good k (ended z places y)) (sym e) (refused-good z k x)
+    ended-good z k places r (gives tt s m e L) = subst (λ y. Good k (ended z places y)) (sym e) (λ d. let u : counts-of s ≡ k = cc in subst (λ y. Runs-as-read chunk c w locals varargs y m) u (from-labelled s m L))
 
 -- DEMAND 3
 pub faithful : (z : Sizes) (chunk : List ℕ) → Bytes chunk → (c : Chunk) → formOf chunk ≡ formed c → (k : Counts) → lowered z chunk .answer ≡ answer.Done k → (w : World) (locals varargs : List Value) → length locals ≡ length (c .names) →
     (n : ℕ) × ((n ≤ k .words) × (run w (program k (lowered z chunk .buffers)) locals varargs ≡ returned (reading w chunk c locals varargs .gives) (reading w chunk c locals varargs .steps) n))
-faithful z chunk bytes c form k d w locals varargs each = lowered-cases z chunk (Good chunk c w locals varargs k) (refused-good chunk c w locals varargs z k) well d
+faithful z chunk bytes c form k d w locals varargs each = lowered-cases z chunk (Good chunk c w locals varargs k) (λ x e. refused-good chunk c w locals varargs z k x) (λ t e l. refused-good chunk c w locals varargs z k refusal.Scratch) well d
   where
     well : (t : Chunk) → formOf chunk ≡ formed t → (a : Accepted chunk t) → length (placesOf (spansOf (t .formulas))) ≤ z .scratch → Good chunk c w locals varargs k (ended z (placesOf (spansOf (t .formulas))) (lower-chunk chunk (a .head) (start (a .head .next) (a .head .locals)) (cleared z)))
     well t form′ a room =

@@ -1,3 +1,4 @@
+pub mod Counted
 pub mod Accepted
 pub mod Cases
 pub mod Faithful

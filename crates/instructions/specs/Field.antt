@@ -1,6 +1,6 @@
 -- A field of a number: `size` values at the place value `place`. And the laws of reading a field back after setting one.
-use Prim.Native.Nat.{ℕ, zero, _+_, _*_, _/_, _%_, _<_}
-use mathlib.Core.Path.{_≡_, refl, sym, ap, _∙_}
+use Prim.Native.Nat.{ℕ, _+_, _*_, _/_, _%_, _<_}
+use mathlib.Core.Path.{_≡_, sym, ap, _∙_}
 use native.Mathlib.Nat.{mod-lt, div-add-mod', div-div-eq-div-mul, mul-add-div-right, mul-add-mod-self-right, mul-assoc, div-lt-iff-lt-mul}
 use lib.Arith.{digits-div, digits-mod, digits-lt}
 

@@ -2,9 +2,9 @@
 use mathlib.Core.Path.{_≡_, refl}
 use lib.IntN.{pos, negsuc}
 use Rattle.instructions.specs.Field.{getAt, setAt}
-use Rattle.instructions.specs.OpCodes.{opCodeOf}
+use Rattle.opcodes.specs.OpCodes.{opCodeOf}
 use Rattle.instructions.specs.Word.{opcodeOf, sbxOf, excess, setSbxOf, abcOf, aBxOf, aSbxOf}
-use Rattle.instructions.specs.declared.OpCode.the-variants.{GetGlobal, Add, Div, Concat, Jmp, Return}
+use Rattle.opcodes.specs.declared.OpCode.the-variants.{GetGlobal, Add, Div, Concat, Jmp, Return}
 
 -- 1 + x: x into register 0, constant 1 and register 0 added, one value returned
 pub get-global : aBxOf GetGlobal 0 0 ≡ 0x0000_0005

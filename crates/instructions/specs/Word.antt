@@ -3,8 +3,8 @@ use Prim.Native.Nat.{ℕ, _+_, _*_, _%_, _-_}
 use lib.IntN.{ℤ, pos, negsuc, _-ℤ_}
 use Rattle.instructions.specs.Limits.{opSize, aSize, bSize, cSize, bxSize, opPlace, aPlace, bPlace, cPlace, bxPlace, maxArgSbx}
 use Rattle.instructions.specs.Field.{getAt, setAt}
-use Rattle.instructions.specs.OpCodes.{codeOf, opCodeOf}
-use Rattle.instructions.specs.declared.OpCode.{OpCode}
+use Rattle.opcodes.specs.OpCodes.{codeOf, opCodeOf}
+use Rattle.opcodes.specs.declared.OpCode.{OpCode}
 
 -- the fields of a word: `opcode` as its number, `a`, `b`, `c`, `bx`
 abbrev pub opOf : ℕ → ℕ

@@ -8,7 +8,7 @@ use borrow.Author.Tests.{eq-eqb, ne-eqb}
 use Rattle.instructions.specs.Limits.{aSize, noReg}
 use Rattle.instructions.specs.Field.{setAt}
 use Rattle.instructions.specs.Word.{bOf, cOf, setAOf, abcOf}
-use Rattle.instructions.specs.declared.OpCode.the-variants.{Test}
+use Rattle.opcodes.specs.declared.OpCode.the-variants.{Test}
 use Rattle.model.specs.Jumps.{retest}
 
 set-a-mod : (w v : ℕ) → setAOf w (v % aSize) ≡ setAOf w v

@@ -9,7 +9,7 @@ use lib.IntN.{ℤ, pos, negsuc, _-ℤ_}
 use lib.ListN.{length, set}
 use borrow.Author.Tests.{eq-eqb, ne-eqb}
 use Rattle.instructions.specs.Limits.{noReg}
-use Rattle.instructions.specs.OpCodes.{testMode}
+use Rattle.opcodes.specs.OpCodes.{testMode}
 use Rattle.instructions.specs.Word.{opcodeOf, sbxOf, setSbxOf}
 use Rattle.model.specs.Jumps.{word, behind, get-jump-target, patch-jump, last-jump, concat-jumps, linked, get-jump-control, control, keeps-value, need-value, patch-test-reg, remove-values, patch-list-aux}
 

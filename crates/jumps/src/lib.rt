@@ -5,13 +5,13 @@ ghost use Prim.Native.Nat.{_+_, _-_, _<_};
 ghost use lib.IntN.{pos, _-ℤ_};
 ghost use lib.Dec.{eqb};
 ghost use lib.ListN.{length, set};
-ghost use Rattle.instructions.specs.OpCodes.{codeOf};
-ghost use Rattle.instructions.specs.declared.OpCode.the-variants.{Test, TestSet};
+ghost use Rattle.opcodes.specs.OpCodes.{codeOf};
+ghost use Rattle.opcodes.specs.declared.OpCode.the-variants.{Test, TestSet};
 ghost use Rattle.instructions.specs.Word.{opOf, bOf, cOf, abcOf, excess};
 ghost use Rattle.model.specs.Jumps.{word, jump-list as jumpList, behind as behindOf, get-jump-target, patch-jump, last-jump, concat-jumps, linked, get-jump-control, control as controlOf, keeps-value, need-value, retest as retestOf, patch-test-reg, remove-values, patch-list-aux};
 ghost use Rattle.jumps.specs.Walk.{Fitting, led};
 use instructions::Instruction;
-use instructions::OpCode;
+use opcodes::OpCode;
 
 // `get_instruction`: the word at pc.
 pub fn word_at(code: &[u32], pc: usize) -> u32

@@ -6,9 +6,9 @@ use mathlib.Core.Bool.{true, false}
 use Rattle.folding.specs.declared.Arith.the-variants as arith
 use Rattle.constants.specs.Entry.{Constant, number as knumber, text as ktext, sameBytes, same}
 use Rattle.cursor.specs.Fields.{hasBytes, byteAt, lineAt, bitsAt, textAt}
-use Rattle.nodes.specs.Kinds.{kindOf}
+use Rattle.ast.specs.Kinds.{kindOf}
 use Rattle.nodes.specs.Nodes.{fieldsAt, nodeAt}
-use Rattle.nodes.specs.Operators.{binOpOf, unOpOf}
+use Rattle.ast.specs.Operators.{binOpOf, unOpOf}
 use Rattle.chunk.specs.Form.{exprsAt, rest, exprAt, ended, formOf, Formed, formed, refused}
 use Rattle.chunk.specs.Headers.{namesAt, formulasAt, headerAt}
 use Rattle.model.specs.Expressions.{search-local}

@@ -19,16 +19,16 @@ use Rattle.labelled.specs.Operators.{numeral, leftOf, Form, logical, joi
 use Rattle.labelled.specs.Expressions.{textC, codeSelf, resolved, compLeaf, compOne, callee, before, comp, compArgs, compAll, begin}
 use Rattle.cursor.specs.Fields.{bytesOf}
 use Rattle.cursor.specs.declared.Text.{Text}
-use Rattle.nodes.specs.declared.ast.BinOp.the-variants as bin
-use Rattle.nodes.specs.declared.ast.UnOp.the-variants as un
-use Rattle.nodes.specs.declared.ast.Leaf.{Leaf}
-use Rattle.nodes.specs.declared.ast.Leaf.the-variants as leaf
-use Rattle.nodes.specs.declared.ast.One.{One}
-use Rattle.nodes.specs.declared.ast.One.the-variants as one
-use Rattle.nodes.specs.declared.ast.Two.{Two}
-use Rattle.nodes.specs.declared.ast.Two.the-variants as two-of
-use Rattle.nodes.specs.declared.ast.Many.{Many}
-use Rattle.nodes.specs.declared.ast.Many.the-variants as many
+use Rattle.ast.specs.declared.BinOp.the-variants as bin
+use Rattle.ast.specs.declared.UnOp.the-variants as un
+use Rattle.ast.specs.declared.Leaf.{Leaf}
+use Rattle.ast.specs.declared.Leaf.the-variants as leaf
+use Rattle.ast.specs.declared.One.{One}
+use Rattle.ast.specs.declared.One.the-variants as one
+use Rattle.ast.specs.declared.Two.{Two}
+use Rattle.ast.specs.declared.Two.the-variants as two-of
+use Rattle.ast.specs.declared.Many.{Many}
+use Rattle.ast.specs.declared.Many.the-variants as many
 use Rattle.chunk.specs.Ast.{Expr, leaf as leaf-node, one as one-node, two as two-node, many as many-node, Exprs, none as no-more, more}
 use Rattle.model.specs.Expressions.{search-local}
 use Rattle.model.specs.Reading.{local-named, local-or-global, read-leaf, read-one, read-binary, read-two, read-many, read-expr, read-args, read-formulas}

@@ -8,9 +8,9 @@ use Rattle.folding.specs.declared.Arith.the-variants as arith
 use Rattle.folding.specs.declared.Fold.{Fold}
 use Rattle.folding.specs.declared.Fold.the-variants.{Folded, Kept}
 use Rattle.constants.specs.Entry.{Constant, nil, truth, number, text}
-use Rattle.nodes.specs.declared.ast.BinOp.the-variants as bin
-use Rattle.nodes.specs.declared.ast.Two.{Two}
-use Rattle.nodes.specs.declared.ast.Two.the-variants as two
+use Rattle.ast.specs.declared.BinOp.the-variants as bin
+use Rattle.ast.specs.declared.Two.{Two}
+use Rattle.ast.specs.declared.Two.the-variants as two
 use Rattle.model.specs.Values.{Kind, equal, less, less-or-equal, folds, valueOf}
 use Rattle.labelled.specs.Code.{Rk, con, Ex, val, cp, glob, idx, ari, neg, len, notx, cat, vfst}
 use Rattle.labelled.specs.Table.{isNear}

@@ -6,7 +6,7 @@ use native.Mathlib.Omega.{arith}
 use lib.ListN.{length, length-replicate}
 use Rattle.refusals.specs.declared.Refusal.{Refusal}
 use Rattle.instructions.specs.Word.{abcOf}
-use Rattle.instructions.specs.declared.OpCode.the-variants as op
+use Rattle.opcodes.specs.declared.OpCode.the-variants as op
 use Rattle.buffers.specs.Pad.{zeros, pad}
 use Rattle.chunk.specs.Form.{maxNesting}
 use Rattle.chunk.specs.Headers.{headerAt}
@@ -15,13 +15,12 @@ use Rattle.chunk.specs.declared.header.HeaderRead.the-variants as header
 use Rattle.model.specs.declared.ExprContext.{ExprContext}
 use Rattle.model.specs.declared.State.{State}
 use Rattle.model.specs.declared.Lowered.the-variants as answer
-use Rattle.model.specs.Steps.{Buffers, Step, Result, done, refused, _>>=_, _>>_, skip}
+use Rattle.model.specs.Steps.{Buffers, bufs, Step, Result, done, refused, _>>=_, _>>_, skip}
 use Rattle.model.specs.Emission.{emit, emit-abc, reserve-regs}
 use Rattle.model.specs.Discharge.{exp2nextreg}
 use Rattle.model.specs.Expressions.{compile-expr}
 use Rattle.model.specs.Claims.{sizes}
-use Rattle.model.specs.Lowering.{cleared, start, formulas, lower-chunk, out, ended, with-header}
-use Rattle.emission.specs.Parts.{bufs}
+use Rattle.model.specs.Lowering.{cleared, start, formulas, lower-chunk, out, ended, with-header, counts-of}
 use Rattle.emission.specs.Laws.{then-done, then-refused}
 use Rattle.lowering.specs.Parts.{returning, from-header}
 
@@ -97,7 +96,7 @@ module _ (chunk places : List ℕ) (n : ℕ) (m : Buffers) where
     lower-refused {k} y z = ap (λ r. with-header (sizes m n) r (λ h. ended (sizes m n) places (lower-chunk chunk h (start (h .next) (h .locals)) m))) q ∙ ap (ended (sizes m n) places) y ∙ ap (λ y. out (answer.Refused k) y (zeros n)) z
 
     pub lower-done : {s : State} {p : Buffers} → lower-chunk chunk h (start (h .next) (h .locals)) m ≡ done tt s p →
-        from-header (sizes m n) chunk places m ≡ out (answer.Done (record { words = s .pc; constants = s .table .count; text = s .table .used; frame = s .frame })) p (pad n places)
+        from-header (sizes m n) chunk places m ≡ out (answer.Done (counts-of s)) p (pad n places)
     lower-done y = ap (λ r. with-header (sizes m n) r (λ h. ended (sizes m n) places (lower-chunk chunk h (start (h .next) (h .locals)) m))) q ∙ ap (ended (sizes m n) places) y
 
 -- five buffers for five

@@ -1,7 +1,7 @@
 -- Parts of the definitions that the code has functions for. Assumes nothing.
 use Prim.Native.Nat.{ℕ, _+_}
 use mathlib.Core.List.{List}
-use Rattle.instructions.specs.declared.OpCode.the-variants as op
+use Rattle.opcodes.specs.declared.OpCode.the-variants as op
 use Rattle.buffers.specs.Pad.{zeros, pad}
 use Rattle.chunk.specs.declared.header.Header.{Header}
 use Rattle.chunk.specs.Headers.{headerAt}

@@ -5,11 +5,10 @@ ghost use Prim.Native.Nat.{ℕ};
 ghost use lib.ListN.{length};
 ghost use Rattle.buffers.specs.Pad.{zeros};
 ghost use Rattle.chunk.specs.Form.{maxNesting};
-ghost use Rattle.model.specs.Steps.{steppedIs};
+ghost use Rattle.model.specs.Steps.{steppedIs, bufs};
 ghost use Rattle.model.specs.Expressions.{compile-expr};
 ghost use Rattle.model.specs.Claims.{sizes, Lowers};
 ghost use Rattle.model.specs.Lowering.{cleared, start, formulas as formulasOf, lower-chunk, out};
-ghost use Rattle.emission.specs.Parts.{bufs};
 ghost use Rattle.lowering.specs.Parts.{returning, from-header, scratch-of};
 use buffers::clear_bytes;
 use buffers::clear_values;
@@ -24,13 +23,13 @@ use discharge::exp2nextreg;
 use emission::emit_abc;
 use emission::reserve_regs;
 use expressions::compile_expr;
-use instructions::OpCode;
 use model::Counts;
 use model::Described;
 use model::Given;
 use model::Lowered;
 use model::State;
 use model::Stepped;
+use opcodes::OpCode;
 use refusals::Refusal;
 
 // ---- formulas

@@ -1,15 +1,17 @@
--- What is claimed of a lowering, in the words of the three demands: what the buffers hold, and that running the words is reading the formulas. Statements only; their proofs are the theorems `padded` and `faithful`. Assumes nothing.
+-- What is claimed of a lowering, in the words of demands 1 and 3: what the buffers hold, where a refusal is given, and that running the words is reading the formulas. Statements only; their proofs are the theorems `padded` and `faithful`. Assumes nothing.
 use Prim.Native.Nat.{ℕ, _-_, _≤_, _<_}
 use mathlib.Core.Path.{_≡_}
 use mathlib.Core.List.{List, _++_}
 use mathlib.Core.Option.{some}
 use lib.ListN.{length, getD, take}
+use Rattle.refusals.specs.Number.{numberOf}
+use Rattle.refusals.specs.declared.Refusal.{Refusal}
+use Rattle.refusals.specs.declared.Refusal.the-variants as refusal
 use Rattle.buffers.specs.Pad.{zeros}
-use Rattle.constants.specs.Entry.{Constant}
-use Rattle.constants.specs.Distinct.{constantAt, Inside}
-use Rattle.chunk.specs.Ast.{Chunk, spansOf}
-use Rattle.chunk.specs.Form.{formed, formOf}
-use Rattle.chunk.specs.Walks.{placesOf}
+use Rattle.instructions.specs.Limits.{maxStack}
+use Rattle.constants.specs.Entry.{Constant, constantAt, Inside}
+use Rattle.chunk.specs.Ast.{Chunk, spansOf, placesOf}
+use Rattle.chunk.specs.Form.{formed, refused as unformed, formOf}
 use Rattle.model.specs.declared.Counts.{Counts}
 use Rattle.model.specs.declared.Lowered.{Lowered}
 use Rattle.model.specs.declared.Lowered.the-variants as answer
@@ -41,22 +43,28 @@ pub record Left (z : Sizes) (chunk : List ℕ) (k : Counts) (m : Buffers) (scrat
   pub entries : (i : ℕ) → i < k .constants → (c : Constant) × (constantAt (m .pool) (m .kinds) (m .values) i ≡ some c)
   pub texts : (i : ℕ) → i < k .constants → getD (m .kinds) i 0 ≡ 4 → Inside (k .text) (getD (m .values) i 0)
   pub differ : (i j : ℕ) → i < j → j < k .constants → constantAt (m .pool) (m .kinds) (m .values) i ≡ constantAt (m .pool) (m .kinds) (m .values) j → ⊥
-  pub frame : k .frame ≤ 250
+  pub frame : k .frame ≤ maxStack
   pub tree : Chunk
   pub form : formOf chunk ≡ formed tree
   pub room : length (placesOf (spansOf (tree .formulas))) ≤ z .scratch
   pub places : scratch ≡ placesOf (spansOf (tree .formulas)) ++ zeros (z .scratch - length (placesOf (spansOf (tree .formulas))))
 
--- a refusal leaves only zeros
+-- where a refusal is given: 1 to 8 where the form gives it; of a chunk that has the form, 9 where the scratch is shorter than the nodes, and 10 to 13 where it isn't
+pub data Due (z : Sizes) (chunk : List ℕ) (x : Refusal) : Type 0 where
+  by-form : formOf chunk ≡ unformed x → numberOf x ≤ 8 → Due z chunk x
+  by-scratch : (c : Chunk) → formOf chunk ≡ formed c → z .scratch < length (placesOf (spansOf (c .formulas))) → x ≡ refusal.Scratch → Due z chunk x
+  by-lowering : (c : Chunk) → formOf chunk ≡ formed c → length (placesOf (spansOf (c .formulas))) ≤ z .scratch → 10 ≤ numberOf x → Due z chunk x
+
+-- a refusal leaves only zeros, and is due
 abbrev pub Padded : Sizes → List ℕ → Lowered → Buffers → List ℕ → Type 0
 Padded z chunk (answer.Done k) m scratch = Left z chunk k m scratch
-Padded z chunk (answer.Refused x) m scratch = (m ≡ cleared z) × (scratch ≡ zeros (z .scratch))
+Padded z chunk (answer.Refused x) m scratch = (m ≡ cleared z) × ((scratch ≡ zeros (z .scratch)) × Due z chunk x)
 
 -- ---- demand 3
 
--- counts and buffers as a program: the words, constants and frame that are counted
+-- counts and buffers as a program: the words, constants, texts and frame that are counted, and nothing behind them
 abbrev pub program : Counts → Buffers → Program
-program k m = record { words = take (k .words) (m .code); constants = k .constants; kinds = m .kinds; values = m .values; pool = m .pool; frame = k .frame }
+program k m = record { words = take (k .words) (m .code); constants = k .constants; kinds = take (k .constants) (m .kinds); values = take (k .constants) (m .values); pool = take (k .text) (m .pool); frame = k .frame }
 
 -- the run returns, with the values and the outward steps of the reading, after no more words carried out than there are
 abbrev pub Runs-as-read : List ℕ → Chunk → World → List Value → List Value → Counts → Buffers → Type 0

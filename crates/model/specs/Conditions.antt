@@ -6,7 +6,7 @@ use lib.ListN.{length, set}
 use lib.Dec.{eqb}
 use Rattle.instructions.specs.Limits.{noReg}
 use Rattle.instructions.specs.Word.{aOf, bOf, setAOf}
-use Rattle.instructions.specs.declared.OpCode.the-variants as op
+use Rattle.opcodes.specs.declared.OpCode.the-variants as op
 use Rattle.model.specs.declared.ExprKind.{ExprKind}
 use Rattle.model.specs.declared.ExprKind.the-variants.{Nil, True, False, K, KNum, Local, Global, Indexed, Jmp, Relocable, NonReloc, Call, VarArg}
 use Rattle.model.specs.declared.ExprContext.{ExprContext}

@@ -6,7 +6,7 @@ use lib.ListN.{length, set}
 use lib.Dec.{eqb, leb}
 use Rattle.instructions.specs.Limits.{bitRk, maxIndexRk}
 use Rattle.instructions.specs.Word.{aOf, setAOf, setBOf, setCOf}
-use Rattle.instructions.specs.declared.OpCode.the-variants as op
+use Rattle.opcodes.specs.declared.OpCode.the-variants as op
 use Rattle.constants.specs.declared.Val.the-variants as val
 use Rattle.model.specs.declared.ExprKind.{ExprKind}
 use Rattle.model.specs.declared.ExprKind.the-variants.{Nil, True, False, K, KNum, Local, Global, Indexed, Jmp, Relocable, NonReloc, Call, VarArg}

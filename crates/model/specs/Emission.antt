@@ -8,8 +8,8 @@ use lib.Dec.{eqb, leb, ltb}
 use Rattle.refusals.specs.declared.Refusal.the-variants.{Registers, Words}
 use Rattle.instructions.specs.Limits.{noReg, bitRk, maxStack, maxWords}
 use Rattle.instructions.specs.Word.{aOf, bOf, setBOf, abcOf, aBxOf, aSbxOf}
-use Rattle.instructions.specs.declared.OpCode.{OpCode}
-use Rattle.instructions.specs.declared.OpCode.the-variants.{LoadBool, LoadNil, Jmp}
+use Rattle.opcodes.specs.declared.OpCode.{OpCode}
+use Rattle.opcodes.specs.declared.OpCode.the-variants.{LoadBool, LoadNil, Jmp}
 use Rattle.constants.specs.Table.{added as addedTo, Out}
 use Rattle.constants.specs.declared.Table.{Table}
 use Rattle.constants.specs.declared.Val.{Val}

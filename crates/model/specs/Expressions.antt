@@ -7,23 +7,23 @@ use lib.Dec.{ltb}
 use Rattle.instructions.specs.Limits.{noReg}
 use Rattle.refusals.specs.declared.Refusal.the-variants as refusal
 use Rattle.instructions.specs.Word.{setAOf, setBOf, setCOf, abcOf}
-use Rattle.instructions.specs.declared.OpCode.the-variants as op
+use Rattle.opcodes.specs.declared.OpCode.the-variants as op
 use Rattle.folding.specs.Numeral.{numeralOf}
 use Rattle.constants.specs.declared.Val.the-variants as val
 use Rattle.cursor.specs.Fields.{bytesOf}
 use Rattle.cursor.specs.declared.Text.{Text}
 use Rattle.nodes.specs.Nodes.{nodeAt}
-use Rattle.nodes.specs.declared.ast.Leaf.{Leaf}
-use Rattle.nodes.specs.declared.ast.Leaf.the-variants as leaf
-use Rattle.nodes.specs.declared.ast.One.{One}
-use Rattle.nodes.specs.declared.ast.One.the-variants as one
-use Rattle.nodes.specs.declared.ast.Two.{Two}
-use Rattle.nodes.specs.declared.ast.Two.the-variants as two
-use Rattle.nodes.specs.declared.ast.Many.{Many}
-use Rattle.nodes.specs.declared.ast.Many.the-variants as many
-use Rattle.nodes.specs.declared.ast.Head.{Head}
-use Rattle.nodes.specs.declared.ast.Head.the-variants as head
-use Rattle.nodes.specs.declared.ast.Node.{Node}
+use Rattle.ast.specs.declared.Leaf.{Leaf}
+use Rattle.ast.specs.declared.Leaf.the-variants as leaf
+use Rattle.ast.specs.declared.One.{One}
+use Rattle.ast.specs.declared.One.the-variants as one
+use Rattle.ast.specs.declared.Two.{Two}
+use Rattle.ast.specs.declared.Two.the-variants as two
+use Rattle.ast.specs.declared.Many.{Many}
+use Rattle.ast.specs.declared.Many.the-variants as many
+use Rattle.ast.specs.declared.Head.{Head}
+use Rattle.ast.specs.declared.Head.the-variants as head
+use Rattle.ast.specs.declared.Node.{Node}
 use Rattle.nodes.specs.declared.node.NodeRead.{NodeRead}
 use Rattle.nodes.specs.declared.node.NodeRead.the-variants as read
 use Rattle.chunk.specs.Headers.{namesAt}

@@ -7,10 +7,10 @@ use lib.ListN.{length, getD, set}
 use lib.IntN.{ℤ, pos, negsuc, _-ℤ_}
 use lib.Dec.{eqb, ltb}
 use Rattle.instructions.specs.Limits.{noReg, maxWords}
-use Rattle.instructions.specs.OpCodes.{codeOf, testMode}
+use Rattle.opcodes.specs.OpCodes.{codeOf, testMode}
 use Rattle.instructions.specs.Word.{opOf, opcodeOf, bOf, cOf, sbxOf, setAOf, setSbxOf, abcOf}
-use Rattle.instructions.specs.declared.OpCode.{OpCode}
-use Rattle.instructions.specs.declared.OpCode.the-variants.{Test, TestSet}
+use Rattle.opcodes.specs.declared.OpCode.{OpCode}
+use Rattle.opcodes.specs.declared.OpCode.the-variants.{Test, TestSet}
 
 -- `get_instruction`
 abbrev pub word : List ℕ → ℕ → ℕ

@@ -7,16 +7,16 @@ use lib.Dec.{leb}
 use Rattle.refusals.specs.declared.Refusal.{Refusal}
 use Rattle.refusals.specs.declared.Refusal.the-variants as refusal
 use Rattle.buffers.specs.Pad.{zeros, pad}
-use Rattle.instructions.specs.declared.OpCode.the-variants as op
-use Rattle.chunk.specs.Ast.{spansOf}
+use Rattle.opcodes.specs.declared.OpCode.the-variants as op
+use Rattle.chunk.specs.Ast.{spansOf, placesOf}
 use Rattle.chunk.specs.Headers.{headerAt}
 use Rattle.chunk.specs.Form.{formed, refused as unformed, formOf, maxNesting}
-use Rattle.chunk.specs.Walks.{placesOf}
 use Rattle.chunk.specs.declared.header.Header.{Header}
 use Rattle.chunk.specs.declared.header.HeaderRead.{HeaderRead}
 use Rattle.chunk.specs.declared.header.HeaderRead.the-variants as header
 use Rattle.model.specs.declared.ExprContext.{ExprContext}
 use Rattle.model.specs.declared.State.{State}
+use Rattle.model.specs.declared.Counts.{Counts}
 use Rattle.model.specs.declared.Lowered.{Lowered}
 use Rattle.model.specs.declared.Lowered.the-variants as answer
 use Rattle.model.specs.Steps.{Buffers, Result, done, refused, Step, _>>=_, _>>_, skip}
@@ -69,9 +69,13 @@ out r m scratch = record { answer = r; buffers = m; scratch = scratch }
 abbrev pub refusal-of : Sizes → Refusal → Out
 refusal-of z k = out (answer.Refused k) (cleared z) (zeros (z .scratch))
 
+-- the counts and the frame of what was lowered
+abbrev pub counts-of : State → Counts
+counts-of s = record { words = s .pc; constants = s .table .count; text = s .table .used; frame = s .frame }
+
 -- code, constants and texts with their counts, and the places of the nodes in the scratch
 abbrev pub ended : Sizes → List ℕ → Result (Unit {0}) → Out
-ended z places (done _ s m) = out (answer.Done (record { words = s .pc; constants = s .table .count; text = s .table .used; frame = s .frame })) m (pad (z .scratch) places)
+ended z places (done _ s m) = out (answer.Done (counts-of s)) m (pad (z .scratch) places)
 ended z places (refused k m) = refusal-of z k
 
 abbrev pub with-header : Sizes → HeaderRead → (Header → Out) → Out

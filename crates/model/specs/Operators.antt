@@ -5,8 +5,8 @@ use mathlib.Core.Bool.{Bool, true, false, _&&_}
 use lib.Dec.{ltb}
 use Rattle.instructions.specs.Limits.{maxIndexRk}
 use Rattle.instructions.specs.Word.{setBOf}
-use Rattle.instructions.specs.declared.OpCode.{OpCode}
-use Rattle.instructions.specs.declared.OpCode.the-variants as op
+use Rattle.opcodes.specs.declared.OpCode.{OpCode}
+use Rattle.opcodes.specs.declared.OpCode.the-variants as op
 use Rattle.folding.specs.Folding.{foldOf}
 use Rattle.folding.specs.declared.Numeral.{Numeral}
 use Rattle.folding.specs.declared.Fold.{Fold}
@@ -18,10 +18,10 @@ use Rattle.constants.specs.Table.{find}
 use Rattle.constants.specs.declared.Val.the-variants as val
 use Rattle.constants.specs.declared.Found.{Found}
 use Rattle.constants.specs.declared.Found.the-variants.{At, Nothing}
-use Rattle.nodes.specs.declared.ast.BinOp.{BinOp}
-use Rattle.nodes.specs.declared.ast.BinOp.the-variants as bin
-use Rattle.nodes.specs.declared.ast.UnOp.{UnOp}
-use Rattle.nodes.specs.declared.ast.UnOp.the-variants as un
+use Rattle.ast.specs.declared.BinOp.{BinOp}
+use Rattle.ast.specs.declared.BinOp.the-variants as bin
+use Rattle.ast.specs.declared.UnOp.{UnOp}
+use Rattle.ast.specs.declared.UnOp.the-variants as un
 use Rattle.model.specs.declared.ExprKind.the-variants.{KNum, Jmp, Relocable}
 use Rattle.model.specs.declared.ExprContext.{ExprContext}
 use Rattle.model.specs.declared.State.{State}
@@ -118,11 +118,12 @@ compare-operands false e₁ e₂ f = do
   c ← exp2rk e₂
   f b c
 
--- the comparison of two RK operands, and its jump
+-- the second where they change places
 abbrev pub either : Bool → ℕ → ℕ → ℕ
 either true b c = c
 either false b c = b
 
+-- the comparison of two RK operands, and its jump
 unfoldable pub emit-comp : OpCode → Bool → Bool → ExprContext → ExprContext → Step ExprContext
 emit-comp o cond swapped b c = do
   free-both b c
@@ -207,7 +208,7 @@ after-right bin.Le e₁ e₂ = code-comp op.Le true false e₁ e₂
 after-right bin.Gt e₁ e₂ = code-comp op.Lt true true e₁ e₂
 after-right bin.Ge e₁ e₂ = code-comp op.Le true true e₁ e₂
 
--- `prefix`: a negated numeral is folded; the operand of `Unm` and of `Len` is a register (difference 6)
+-- `prefix`: a negated numeral is folded, unless it is a NaN; the operand of `Len` is a register, and that of `Unm` too (difference 6)
 unfoldable pub code-unop : UnOp → ExprContext → Step ExprContext
 code-unop un.Neg e = unless-folded (const-fold arith.Unm e (newOf KNum 0)) e (code-unary op.Unm e)
 code-unop un.Not e = code-not e

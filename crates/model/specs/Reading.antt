@@ -6,17 +6,17 @@ use mathlib.Core.Option.{Option, some, none}
 use Rattle.folding.specs.declared.Arith.the-variants as arith
 use Rattle.cursor.specs.Fields.{bytesOf}
 use Rattle.cursor.specs.declared.Text.{Text}
-use Rattle.nodes.specs.declared.ast.BinOp.{BinOp}
-use Rattle.nodes.specs.declared.ast.BinOp.the-variants as bin
-use Rattle.nodes.specs.declared.ast.UnOp.the-variants as un
-use Rattle.nodes.specs.declared.ast.Leaf.{Leaf}
-use Rattle.nodes.specs.declared.ast.Leaf.the-variants as leaf
-use Rattle.nodes.specs.declared.ast.One.{One}
-use Rattle.nodes.specs.declared.ast.One.the-variants as one
-use Rattle.nodes.specs.declared.ast.Two.{Two}
-use Rattle.nodes.specs.declared.ast.Two.the-variants as two
-use Rattle.nodes.specs.declared.ast.Many.{Many}
-use Rattle.nodes.specs.declared.ast.Many.the-variants as many
+use Rattle.ast.specs.declared.BinOp.{BinOp}
+use Rattle.ast.specs.declared.BinOp.the-variants as bin
+use Rattle.ast.specs.declared.UnOp.the-variants as un
+use Rattle.ast.specs.declared.Leaf.{Leaf}
+use Rattle.ast.specs.declared.Leaf.the-variants as leaf
+use Rattle.ast.specs.declared.One.{One}
+use Rattle.ast.specs.declared.One.the-variants as one
+use Rattle.ast.specs.declared.Two.{Two}
+use Rattle.ast.specs.declared.Two.the-variants as two
+use Rattle.ast.specs.declared.Many.{Many}
+use Rattle.ast.specs.declared.Many.the-variants as many
 use Rattle.chunk.specs.Ast.{Expr, leaf as leaf-node, one as one-node, two as two-node, many as many-node, Exprs, none as no-more, more, Chunk}
 use Rattle.model.specs.Values.{later, named, Value, nil, truth, number, text, is-true, first, Kind, global-read, index-read, call, equal, less, less-or-equal, length-of, concatenation, Outward, World, Taken, taken, ask, ask-many, ask-truth, compute, negation}
 

@@ -6,16 +6,16 @@ use mathlib.Core.Bool.{true, false, not}
 use lib.ListN.{take}
 use Rattle.buffers.specs.Pad.{pad}
 use Rattle.instructions.specs.Field.{getAt, setAt}
-use Rattle.instructions.specs.OpCodes.{opCodeOf}
+use Rattle.opcodes.specs.OpCodes.{opCodeOf}
 use Rattle.instructions.specs.Word.{sbxOf, excess, abcOf, aBxOf}
 use Rattle.folding.specs.Floor.{floor}
 use Rattle.folding.specs.Folding.{foldOf}
 use Rattle.constants.specs.Entry.{entryOf, sameBytes, same, holds}
 use Rattle.constants.specs.Table.{find, append, added}
 use Rattle.cursor.specs.Fields.{hasBytes, byteAt, lineAt, bitsAt, textAt}
-use Rattle.nodes.specs.Kinds.{kindOf}
+use Rattle.ast.specs.Kinds.{kindOf}
 use Rattle.nodes.specs.Nodes.{fieldsAt, nodeAt}
-use Rattle.nodes.specs.Operators.{binOpOf, unOpOf}
+use Rattle.ast.specs.Operators.{binOpOf, unOpOf}
 use Rattle.chunk.specs.Ast.{spans, spansOf}
 use Rattle.chunk.specs.Form.{exprsAt, rest, exprAt, ended, formOf}
 use Rattle.chunk.specs.Headers.{namesAt, formulasAt, headerAt}

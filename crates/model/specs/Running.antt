@@ -10,8 +10,8 @@ use lib.IntN.{ℤ, pos, negsuc}
 use lib.Dec.{eqb, leb, ltb}
 use Rattle.instructions.specs.Limits.{bitRk}
 use Rattle.instructions.specs.Word.{opcodeOf, aOf, bOf, cOf, bxOf, sbxOf}
-use Rattle.instructions.specs.declared.OpCode.{OpCode}
-use Rattle.instructions.specs.declared.OpCode.the-variants as op
+use Rattle.opcodes.specs.declared.OpCode.{OpCode}
+use Rattle.opcodes.specs.declared.OpCode.the-variants as op
 use Rattle.folding.specs.declared.Arith.the-variants as arith
 use Rattle.constants.specs.Entry.{Constant, entryOf}
 use Rattle.model.specs.Values.{Value, nil, truth, number, text, other, valueOf, is-true, first, fit, Kind, global-read, index-read, equal, less, less-or-equal, length-of, concatenation, Outward, World, Taken, taken, ask, ask-many, ask-truth, compute, negation}

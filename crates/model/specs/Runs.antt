@@ -7,16 +7,16 @@ use lib.ListN.{length, replicate}
 use lib.Dec.{eqb, ltb}
 use Rattle.buffers.specs.Pad.{pad, zeros}
 use Rattle.instructions.specs.Field.{getAt, setAt}
-use Rattle.instructions.specs.OpCodes.{opCodeOf}
+use Rattle.opcodes.specs.OpCodes.{opCodeOf}
 use Rattle.instructions.specs.Word.{sbxOf, excess, abcOf, aBxOf}
 use Rattle.folding.specs.Floor.{floor}
 use Rattle.folding.specs.Folding.{foldOf}
 use Rattle.constants.specs.Entry.{entryOf, sameBytes, same, holds}
 use Rattle.constants.specs.Table.{find, append, added}
 use Rattle.cursor.specs.Fields.{hasBytes, byteAt, lineAt, bitsAt, textAt}
-use Rattle.nodes.specs.Kinds.{kindOf}
+use Rattle.ast.specs.Kinds.{kindOf}
 use Rattle.nodes.specs.Nodes.{fieldsAt, nodeAt}
-use Rattle.nodes.specs.Operators.{binOpOf, unOpOf}
+use Rattle.ast.specs.Operators.{binOpOf, unOpOf}
 use Rattle.chunk.specs.Ast.{spans, spansOf}
 use Rattle.chunk.specs.Form.{exprsAt, rest, exprAt, ended, formOf, Formed, formed, refused as unformed}
 use Rattle.chunk.specs.Headers.{namesAt, formulasAt, headerAt}
@@ -32,7 +32,7 @@ use Rattle.model.specs.Steps.{andThen, Buffers, Result, done, refused}
 use Rattle.model.specs.Values.{compute, negation, Value, nil, truth, number, text, other, Kind, global-read, index-read, call, equal, less, less-or-equal, length-of, concatenation, arithmetic, Outward, World}
 use lib.Ieee.{span, climb, size, odd, units, round, neg, sum, add, sub, mul, div, lt, eq, le, ne, ofInt, ofFields, ofBits, nanBits, toBits, isNan}
 use Rattle.model.specs.Claims.{program}
-use Rattle.model.specs.Lowering.{formulas, lower-chunk, lower-formed, lowered, start}
+use Rattle.model.specs.Lowering.{formulas, lower-chunk, lower-formed, lowered, start, counts-of}
 use Rattle.model.specs.Rows.{Summary, words, refusal, Row, rows, nils}
 use Rattle.chunk.specs.declared.header.HeaderRead.{HeaderRead}
 use Rattle.chunk.specs.declared.header.HeaderRead.the-variants as header
@@ -55,7 +55,7 @@ abbrev filled : ℕ → Buffers
 filled n = record { code = zeros 64; lines = zeros 64; kinds = replicate n 3 ++ zeros 16; values = numbers n ++ zeros 16; pool = zeros 64 }
 
 abbrev program-of : State → Buffers → Program
-program-of s m = program (record { words = s .pc; constants = s .table .count; text = s .table .used; frame = s .frame }) m
+program-of s m = program (counts-of s) m
 
 -- the values of the locals, and the varargs
 some-values : ℕ → List Value

@@ -20,6 +20,9 @@ pub record Buffers : Type 0 where
   pub values : List ℕ
   pub pool : List ℕ
 
+abbrev pub bufs : List ℕ → List ℕ → List ℕ → List ℕ → List ℕ → Buffers
+bufs code lines kinds values pool = record { code = code; lines = lines; kinds = kinds; values = values; pool = pool }
+
 pub data Result (A : Type 0) : Type 0 where
   done : A → State → Buffers → Result A
   refused : Refusal → Buffers → Result A

@@ -3,16 +3,16 @@ use Prim.Native.Nat.{ℕ, _<_, _≤_}
 use mathlib.Core.Path.{_≡_, refl, sym, ap, _∙_}
 use mathlib.Core.List.{List, map}
 use lib.ListN.{getD, replicate, getD-replicate, List·getD-map, List·getD-eq-default}
-use Rattle.nodes.specs.Operators.{binOps, binOpOf, unOps, unOpOf}
+use Rattle.ast.specs.Operators.{binOps, binOpOf, unOps, unOpOf}
 use Rattle.nodes.specs.Nodes.{withBinOp, withUnOp, unknown, node}
 use Rattle.nodes.specs.Extents.{extent, extentOf}
-use Rattle.nodes.specs.declared.ast.BinOpRead.{BinOpRead}
-use Rattle.nodes.specs.declared.ast.BinOpRead.the-variants as bin
-use Rattle.nodes.specs.declared.ast.UnOpRead.{UnOpRead}
-use Rattle.nodes.specs.declared.ast.UnOpRead.the-variants as un
-use Rattle.nodes.specs.declared.ast.One.the-variants as one
-use Rattle.nodes.specs.declared.ast.Two.the-variants as two
-use Rattle.nodes.specs.declared.ast.Head.the-variants as head
+use Rattle.ast.specs.declared.BinOpRead.{BinOpRead}
+use Rattle.ast.specs.declared.BinOpRead.the-variants as bin
+use Rattle.ast.specs.declared.UnOpRead.{UnOpRead}
+use Rattle.ast.specs.declared.UnOpRead.the-variants as un
+use Rattle.ast.specs.declared.One.the-variants as one
+use Rattle.ast.specs.declared.Two.the-variants as two
+use Rattle.ast.specs.declared.Head.the-variants as head
 use Rattle.nodes.specs.declared.node.NodeRead.{NodeRead}
 
 alike : {A B : Type 0} (f : A → B) (l : List A) (d : A) (n : ℕ) (y : B) → map f l ≡ replicate n y → (b : ℕ) → b < n → f (getD l b d) ≡ y

@@ -1,5 +1,3 @@
-pub mod Operators
-pub mod Kinds
-pub mod Children
 pub mod Nodes
+pub mod Reads
 pub mod Extents

@@ -4,26 +4,26 @@ use mathlib.Core.List.{List}
 use mathlib.Core.Bool.{Bool, true, false}
 use lib.Dec.{eqb}
 use Rattle.refusals.specs.declared.Refusal.the-variants as refusal
-use Rattle.nodes.specs.Kinds.{kindOf, mapOf}
-use Rattle.nodes.specs.Operators.{binOpOf, unOpOf}
+use Rattle.ast.specs.Kinds.{kindOf, mapOf}
+use Rattle.ast.specs.Operators.{binOpOf, unOpOf}
 use Rattle.cursor.specs.Fields.{byteAt, lineAt, bitsAt, textAt, endOf}
-use Rattle.nodes.specs.declared.ast.Kind.{Kind}
-use Rattle.nodes.specs.declared.ast.Kind.the-variants.{Nil, True, False, Number, Str, VarArg, Name, Binary, Unary, Index, Field, MethodCall, Call, Paren}
-use Rattle.nodes.specs.declared.ast.KindRead.{KindRead}
-use Rattle.nodes.specs.declared.ast.KindRead.the-variants as kind
-use Rattle.nodes.specs.declared.ast.BinOp.{BinOp}
-use Rattle.nodes.specs.declared.ast.BinOpRead.{BinOpRead}
-use Rattle.nodes.specs.declared.ast.BinOpRead.the-variants as bin
-use Rattle.nodes.specs.declared.ast.UnOp.{UnOp}
-use Rattle.nodes.specs.declared.ast.UnOpRead.{UnOpRead}
-use Rattle.nodes.specs.declared.ast.UnOpRead.the-variants as un
+use Rattle.ast.specs.declared.Kind.{Kind}
+use Rattle.ast.specs.declared.Kind.the-variants.{Nil, True, False, Number, Str, VarArg, Name, Binary, Unary, Index, Field, MethodCall, Call, Paren}
+use Rattle.ast.specs.declared.KindRead.{KindRead}
+use Rattle.ast.specs.declared.KindRead.the-variants as kind
+use Rattle.ast.specs.declared.BinOp.{BinOp}
+use Rattle.ast.specs.declared.BinOpRead.{BinOpRead}
+use Rattle.ast.specs.declared.BinOpRead.the-variants as bin
+use Rattle.ast.specs.declared.UnOp.{UnOp}
+use Rattle.ast.specs.declared.UnOpRead.{UnOpRead}
+use Rattle.ast.specs.declared.UnOpRead.the-variants as un
 use Rattle.cursor.specs.declared.Text.{Text}
-use Rattle.nodes.specs.declared.ast.Leaf.the-variants as leaf
-use Rattle.nodes.specs.declared.ast.One.the-variants as one
-use Rattle.nodes.specs.declared.ast.Two.the-variants as two
-use Rattle.nodes.specs.declared.ast.Many.the-variants as many
-use Rattle.nodes.specs.declared.ast.Head.{Head}
-use Rattle.nodes.specs.declared.ast.Head.the-variants as head
+use Rattle.ast.specs.declared.Leaf.the-variants as leaf
+use Rattle.ast.specs.declared.One.the-variants as one
+use Rattle.ast.specs.declared.Two.the-variants as two
+use Rattle.ast.specs.declared.Many.the-variants as many
+use Rattle.ast.specs.declared.Head.{Head}
+use Rattle.ast.specs.declared.Head.the-variants as head
 use Rattle.cursor.specs.declared.ByteRead.{ByteRead}
 use Rattle.cursor.specs.declared.ByteRead.the-variants.{Byte, NoByte}
 use Rattle.cursor.specs.declared.LineRead.{LineRead}
@@ -115,14 +115,6 @@ abbrev pub withFront : Front → (Kind → ℕ → ℕ → NodeRead) → NodeRea
 withFront (front.Refused k) f = read.Refused k
 withFront (front.Front k at line) f = f k at line
 
--- kind byte, map byte, line if its bit stands, and the kind's fields; a missing line is that of the node before
+-- what stands before the fields, and the kind's fields; a missing line is that of the node before
 unfoldable pub nodeAt : List ℕ → Bool → ℕ → ℕ → NodeRead
-nodeAt s va at line =
-    withByte (byteAt s at) missing λ b.
-    withKind (kindOf b) unknown λ k.
-    withByte (byteAt s (at + 1)) missing λ m.
-    require (eqb (m / 2) (mapOf k)) (read.Refused refusal.Map) λ _.
-    elim (eqb (m % 2) 0) [
-      | true ↦ fieldsAt s va k (at + 2) line
-      | false ↦ withLine (lineAt s (at + 2)) missing λ l. fieldsAt s va k (at + 6) l
-    ]
+nodeAt s va at line = withFront (frontAt s at line) (fieldsAt s va)

@@ -1,4 +1,3 @@
-// The nodes of a chunk at a place: what a node is, and its fields with their refusals (document 01, "The chunk").
-pub mod ast; // `Expr` of ast.rs without its sub-expressions
+// The nodes of a chunk where they stand: their fields with their refusals (document 01, "The chunk"). What a node is stands in crate ast.
 pub mod node; // a node's fields
 pub mod skip; // where a node ends

@@ -1,9 +1,9 @@
 -- What an operator is to its operands. Assumes nothing.
 use mathlib.Core.Bool.{true, false}
-use Rattle.instructions.specs.declared.OpCode.the-variants as op
+use Rattle.opcodes.specs.declared.OpCode.the-variants as op
 use Rattle.folding.specs.declared.Arith.the-variants as arith
-use Rattle.nodes.specs.declared.ast.BinOp.{BinOp}
-use Rattle.nodes.specs.declared.ast.BinOp.the-variants as bin
+use Rattle.ast.specs.declared.BinOp.{BinOp}
+use Rattle.ast.specs.declared.BinOp.the-variants as bin
 use Rattle.operands.specs.declared.Form.{Form}
 use Rattle.operands.specs.declared.Form.the-variants.{And, Or, Concat, Arithmetic, Comparison}
 

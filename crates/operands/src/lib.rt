@@ -9,13 +9,13 @@ ghost use Rattle.model.specs.Discharge.{free-expr, rk as rkOf};
 ghost use Rattle.model.specs.Operators.{free-both};
 ghost use Rattle.operands.specs.Forms.{formOf};
 ghost use Rattle.operands.specs.Laws.{registerOf};
+use ast::BinOp;
 use emission::free_reg;
 use folding::Arith;
-use instructions::OpCode;
 use model::ExprContext;
 use model::ExprKind;
 use model::State;
-use nodes::ast::BinOp;
+use opcodes::OpCode;
 
 // ---- kinds
 

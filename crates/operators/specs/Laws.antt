@@ -6,8 +6,8 @@ use mathlib.Core.Path.{_≡_, refl, ap, _∙_}
 use lib.ListN.{set}
 use Rattle.refusals.specs.declared.Refusal.{Refusal}
 use Rattle.instructions.specs.Word.{setBOf}
-use Rattle.instructions.specs.declared.OpCode.{OpCode}
-use Rattle.instructions.specs.declared.OpCode.the-variants as op
+use Rattle.opcodes.specs.declared.OpCode.{OpCode}
+use Rattle.opcodes.specs.declared.OpCode.the-variants as op
 use Rattle.folding.specs.Folding.{foldOf}
 use Rattle.folding.specs.declared.Arith.{Arith}
 use Rattle.folding.specs.declared.Arith.the-variants as arith
@@ -18,20 +18,19 @@ use Rattle.constants.specs.Entry.{holds}
 use Rattle.constants.specs.Table.{find}
 use Rattle.constants.specs.declared.Val.the-variants as val
 use Rattle.constants.specs.declared.Found.{Found}
-use Rattle.nodes.specs.declared.ast.BinOp.{BinOp}
-use Rattle.nodes.specs.declared.ast.BinOp.the-variants as bin
-use Rattle.nodes.specs.declared.ast.UnOp.the-variants as un
+use Rattle.ast.specs.declared.BinOp.{BinOp}
+use Rattle.ast.specs.declared.BinOp.the-variants as bin
+use Rattle.ast.specs.declared.UnOp.the-variants as un
 use Rattle.model.specs.declared.ExprKind.the-variants.{KNum, Relocable}
 use Rattle.model.specs.declared.ExprContext.{ExprContext}
 use Rattle.model.specs.declared.State.{State}
-use Rattle.model.specs.Steps.{Buffers, Step, Result, done, refused, andThen}
+use Rattle.model.specs.Steps.{Buffers, bufs, Step, Result, done, refused, andThen}
 use Rattle.model.specs.Descriptor.{newOf, is, jumps, isKind, is-numeral}
 use Rattle.model.specs.Jumps.{word, isOp}
 use Rattle.model.specs.Emission.{emit-abc, emit-jump, concat}
 use Rattle.model.specs.Discharge.{discharge-vars, free-expr, exp2nextreg, exp2anyreg, exp2val, exp2rk, rk}
 use Rattle.model.specs.Conditions.{goiftrue, goiffalse, code-not, bit}
 use Rattle.model.specs.Operators.{arithOp, const-fold, with-number, unless-folded, free-both, emit-arith, code-arith, code-unary, code-concat, is-far, far-numeral, compare-operands, either, emit-comp, code-comp, operand, before-right, code-and, code-or, join-concat, after-right, code-unop}
-use Rattle.emission.specs.Parts.{bufs}
 use Rattle.emission.specs.Laws.{branch, then-done, then-refused}
 use Rattle.operands.specs.Forms.{formOf}
 use Rattle.conditions.specs.Parts.{relocable, unary, tested}

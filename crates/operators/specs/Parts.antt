@@ -2,8 +2,8 @@
 use Prim.Native.Nat.{ℕ, _-_}
 use mathlib.Core.Bool.{Bool, true, false, _&&_}
 use Rattle.instructions.specs.Word.{setBOf}
-use Rattle.instructions.specs.declared.OpCode.{OpCode}
-use Rattle.instructions.specs.declared.OpCode.the-variants as op
+use Rattle.opcodes.specs.declared.OpCode.{OpCode}
+use Rattle.opcodes.specs.declared.OpCode.the-variants as op
 use Rattle.folding.specs.declared.Arith.{Arith}
 use Rattle.model.specs.declared.ExprKind.the-variants.{Jmp, Relocable}
 use Rattle.model.specs.declared.ExprContext.{ExprContext}
@@ -14,7 +14,7 @@ use Rattle.model.specs.Discharge.{change-word, free-expr, exp2nextreg, exp2anyr
 use Rattle.model.specs.Operators.{arithOp, free-both, code-concat, emit-comp}
 use Rattle.conditions.specs.Parts.{relocable}
 
--- the second of two
+-- the second of two where the flag is set, else the first
 abbrev pub chosen : Bool → ExprContext → ExprContext → ExprContext
 chosen true x y = y
 chosen false x y = x

@@ -3,11 +3,12 @@
 ghost use mathlib.Core.List.{List};
 ghost use mathlib.Core.Path.{_≡_};
 ghost use Prim.Native.Nat.{ℕ};
-ghost use Rattle.model.specs.Steps.{Buffers, done, andThen, givenIs, describedIs};
+ghost use Rattle.model.specs.Steps.{Buffers, bufs, done, andThen, givenIs, describedIs};
 ghost use Rattle.model.specs.Descriptor.{is-numeral};
 ghost use Rattle.model.specs.Operators.{arithOp, const-fold, with-number, code-arith, code-unary, code-concat, is-far, far-numeral, either as eitherOf, emit-comp, code-comp, operand as operandOf, before-right, code-and, code-or, join-concat, after-right, code-unop};
-ghost use Rattle.emission.specs.Parts.{bufs};
 ghost use Rattle.operators.specs.Parts.{chosen, arith-of, arith-left, jump-of, comp-second, concat-word, concat-left, joined-to};
+use ast::BinOp;
+use ast::UnOp;
 use conditions::bit;
 use conditions::code_not;
 use conditions::emit_relocable;
@@ -31,15 +32,13 @@ use discharge::with_kind;
 use folding::Arith;
 use folding::Fold;
 use folding::Numeral;
-use instructions::OpCode;
 use jumps::concat_jumps;
 use model::Described;
 use model::ExprContext;
 use model::ExprKind;
 use model::Given;
 use model::State;
-use nodes::ast::BinOp;
-use nodes::ast::UnOp;
+use opcodes::OpCode;
 use operands::Form;
 use operands::form_of;
 use operands::free_both;
@@ -568,7 +567,7 @@ pub fn postfix(
 
 // ---- unary operators
 
-// A negated numeral is folded; the operand of `Unm` and of `Len` is a register (difference 6).
+// A negated numeral is folded, unless it is a NaN; the operand of `Len` is a register, and that of `Unm` too (difference 6).
 pub fn prefix(
     code: &mut [u32],
     lines: &mut [u32],

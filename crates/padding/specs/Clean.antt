@@ -31,16 +31,16 @@ abbrev pub Keeps : Sizes → {A : Type 0} → Step A → Type 0
 Keeps z x = (s : State) (m : Buffers) → Clean z s m → Leaves z (x s m)
 
 -- what is left where it is done
-abbrev Left : Sizes → {A : Type 0} → Result A → Type 0
-Left z (done a s m) = Clean z s m
-Left z (refused k m) = Unit {0}
+abbrev CleanAfter : Sizes → {A : Type 0} → Result A → Type 0
+CleanAfter z (done a s m) = Clean z s m
+CleanAfter z (refused k m) = Unit {0}
 
-left : {z : Sizes} {A : Type 0} {r : Result A} → Leaves z r → Left z r
-left (clean a s m c) = c
-left (none k m) = tt
+clean-after : {z : Sizes} {A : Type 0} {r : Result A} → Leaves z r → CleanAfter z r
+clean-after (clean a s m c) = c
+clean-after (none k m) = tt
 
 pub ends-clean : {z : Sizes} {A : Type 0} {r : Result A} {a : A} {s : State} {m : Buffers} → Leaves z r → r ≡ done a s m → Clean z s m
-ends-clean {z} l e = subst (Left z) e (left l)
+ends-clean {z} l e = subst (CleanAfter z) e (clean-after l)
 
 -- ---- the parts of a step
 

@@ -1,3 +1,4 @@
+pub mod Early
 pub mod Clean
 pub mod Lengths
 pub mod Emission

@@ -2,16 +2,16 @@
 use mathlib.Core.Bool.{Bool, true, false, _&&_}
 use lib.Dec.{ltb}
 use Rattle.instructions.specs.Word.{setBOf}
-use Rattle.instructions.specs.declared.OpCode.{OpCode}
-use Rattle.instructions.specs.declared.OpCode.the-variants as op
+use Rattle.opcodes.specs.declared.OpCode.{OpCode}
+use Rattle.opcodes.specs.declared.OpCode.the-variants as op
 use Rattle.folding.specs.declared.Fold.{Fold}
 use Rattle.folding.specs.declared.Fold.the-variants.{Folded, Kept}
 use Rattle.folding.specs.declared.Arith.{Arith}
 use Rattle.folding.specs.declared.Arith.the-variants as arith
-use Rattle.nodes.specs.declared.ast.BinOp.{BinOp}
-use Rattle.nodes.specs.declared.ast.BinOp.the-variants as bin
-use Rattle.nodes.specs.declared.ast.UnOp.{UnOp}
-use Rattle.nodes.specs.declared.ast.UnOp.the-variants as un
+use Rattle.ast.specs.declared.BinOp.{BinOp}
+use Rattle.ast.specs.declared.BinOp.the-variants as bin
+use Rattle.ast.specs.declared.UnOp.{UnOp}
+use Rattle.ast.specs.declared.UnOp.the-variants as un
 use Rattle.model.specs.declared.ExprKind.the-variants.{KNum, Relocable}
 use Rattle.model.specs.declared.ExprContext.{ExprContext}
 use Rattle.model.specs.Descriptor.{newOf, isKind, is-numeral}

@@ -7,13 +7,13 @@ use native.Mathlib.Nat.{sub-zero, suc-sub-suc}
 use native.Mathlib.Omega.{arith}
 use lib.ListN.{length, getD, take}
 use Rattle.refusals.specs.declared.Refusal.{Refusal}
+use Rattle.refusals.specs.declared.Refusal.the-variants as refusal
 use Rattle.buffers.specs.Pad.{zeros, pad-fits}
-use Rattle.chunk.specs.Ast.{Chunk, spansOf}
+use Rattle.chunk.specs.Ast.{Chunk, spansOf, placesOf}
 use Rattle.chunk.specs.Form.{formed, formOf}
-use Rattle.chunk.specs.Walks.{placesOf}
 use Rattle.model.specs.declared.State.{State}
 use Rattle.model.specs.Steps.{Buffers, Result, done}
-use Rattle.model.specs.Claims.{Filled, Padded}
+use Rattle.model.specs.Claims.{Filled, Due, by-form, by-scratch, by-lowering, Padded}
 use Rattle.model.specs.Lowering.{Sizes, cleared, start, lower-chunk, Out, refusal-of, ended, lowered}
 use Rattle.labelled.specs.Emission.{St}
 use Rattle.labelled.specs.Expressions.{labelled}
@@ -22,6 +22,7 @@ use Rattle.simulation.specs.Texts.{Bytes}
 use Rattle.simulation.specs.Whole.{Lowers-to, whole-lowered}
 use Rattle.faithful.specs.Accepted.{Accepted, header-names}
 use Rattle.faithful.specs.Cases.{lowered-cases}
+use Rattle.padding.specs.Early.{early}
 use Rattle.padding.specs.Clean.{Clean}
 use Rattle.padding.specs.Lowering.{lowered-clean}
 
@@ -42,8 +43,8 @@ module _ (z : Sizes) (chunk : List ℕ) where
   abbrev Good : Out → Type 0
   Good o = Padded z chunk (o .answer) (o .buffers) (o .scratch)
 
-  refused-good : (x : Refusal) → Good (refusal-of z x)
-  refused-good x = (refl, refl)
+  refused-good : (x : Refusal) → Due z chunk x → Good (refusal-of z x)
+  refused-good x d = (refl, (refl, d))
 
   module _ (c : Chunk) (form : formOf chunk ≡ formed c) (a : Accepted chunk c) where
     abbrev places : List ℕ
@@ -70,12 +71,12 @@ module _ (z : Sizes) (chunk : List ℕ) where
     }
 
     ended-good : (r : Result (Unit {0})) → length places ≤ z .scratch → ((s : State) (m : Buffers) → r ≡ done tt s m → Clean z s m) → Ends r (λ u s m. Lowers-to s m (σ .code) σ (a .head .locals) (a .head .formulas)) → Good (ended z places r)
-    ended-good r l g (refuses x m e) = subst (λ y. Good (ended z places y)) (sym e) (refused-good x)
+    ended-good r l g (refuses x m n e) = subst (λ y. Good (ended z places y)) (sym e) (refused-good x (by-lowering c form l n))
     ended-good r l g (gives tt s m e L) = subst (λ y. Good (ended z places y)) (sym e) (done-good s m l (g s m e) L)
 
 -- DEMAND 1
 pub padded : (z : Sizes) (chunk : List ℕ) → Bytes chunk → Padded z chunk (lowered z chunk .answer) (lowered z chunk .buffers) (lowered z chunk .scratch)
-padded z chunk bytes = lowered-cases z chunk (Good z chunk) (refused-good z chunk) well
+padded z chunk bytes = lowered-cases z chunk (Good z chunk) (λ x e. refused-good z chunk x (by-form e (early chunk x e))) (λ c e l. refused-good z chunk refusal.Scratch (by-scratch c e l refl)) well
   where
     well : (c : Chunk) → formOf chunk ≡ formed c → (a : Accepted chunk c) → length (placesOf (spansOf (c .formulas))) ≤ z .scratch → Good z chunk (ended z (placesOf (spansOf (c .formulas))) (lower-chunk chunk (a .head) (start (a .head .next) (a .head .locals)) (cleared z)))
     well c form a room =

@@ -10,7 +10,7 @@ use lib.ListN.{length, set}
 use borrow.Author.Tests.{lt-ltb}
 use Rattle.instructions.specs.Limits.{maxStack}
 use Rattle.instructions.specs.Word.{opcodeOf, aOf, bOf, cOf, abcOf}
-use Rattle.instructions.specs.declared.OpCode.the-variants as op
+use Rattle.opcodes.specs.declared.OpCode.the-variants as op
 use Rattle.constants.specs.Entry.{Constant}
 use Rattle.model.specs.Values.{Value, first, World, ask-many}
 use Rattle.model.specs.Jumps.{word}

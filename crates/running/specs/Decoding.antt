@@ -11,7 +11,7 @@ use borrow.Author.Tests.{le-ltb}
 use Rattle.instructions.specs.Limits.{aSize, bSize, cSize, bxSize, maxWords}
 use Rattle.instructions.specs.Word.{opcodeOf, aOf, bOf, cOf, bxOf, sbxOf, abcOf, aBxOf}
 use Rattle.instructions.specs.Laws.{opcode-abc, a-abc, b-abc, c-abc, opcode-a-bx, a-a-bx, bx-a-bx}
-use Rattle.instructions.specs.declared.OpCode.{OpCode}
+use Rattle.opcodes.specs.declared.OpCode.{OpCode}
 use Rattle.model.specs.Conditions.{bit}
 use Rattle.model.specs.Running.{flag}
 use Rattle.threads.specs.Words.{jmpTo, sbx-to}

@@ -7,9 +7,8 @@ use mathlib.Core.Option.{some}
 use native.Mathlib.Omega.{arith}
 use lib.ListN.{getD}
 use Rattle.instructions.specs.Word.{abcOf, aBxOf}
-use Rattle.instructions.specs.declared.OpCode.the-variants as op
-use Rattle.constants.specs.Entry.{Constant, nil as knil, number as knumber, text as ktext, entryOf, same, sameBytes}
-use Rattle.constants.specs.Distinct.{constantAt}
+use Rattle.opcodes.specs.declared.OpCode.the-variants as op
+use Rattle.constants.specs.Entry.{Constant, nil as knil, number as knumber, text as ktext, entryOf, same, sameBytes, constantAt}
 use Rattle.model.specs.Values.{Value, nil, truth, number, text, first, World, global-read, outward, call}
 use Rattle.model.specs.Running.{Program}
 use Rattle.labelled.specs.Code.{val, glob, cva, tseta, to, setw, callw, pl, br, Code, size, same as same-number}

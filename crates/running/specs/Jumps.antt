@@ -11,7 +11,7 @@ use lib.ListN.{length, set}
 use Rattle.instructions.specs.Limits.{maxStack, maxWords, noReg}
 use Rattle.instructions.specs.Word.{opcodeOf, aOf, bOf, cOf, sbxOf, abcOf}
 use Rattle.instructions.specs.Laws.{opcode-a-bx}
-use Rattle.instructions.specs.declared.OpCode.the-variants as op
+use Rattle.opcodes.specs.declared.OpCode.the-variants as op
 use Rattle.constants.specs.Entry.{Constant}
 use Rattle.model.specs.Values.{Value, is-true, Kind, global-read, index-read, call, equal, less, less-or-equal, length-of, concatenation, arithmetic, World, ask-truth}
 use Rattle.model.specs.Jumps.{word}

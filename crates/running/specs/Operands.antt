@@ -9,8 +9,7 @@ use lib.ListN.{length, getD, set}
 use lib.Seq.{sets}
 use borrow.Author.Tests.{lt-ltb, le-ltb}
 use Rattle.instructions.specs.Limits.{maxConstants, maxStack, bitRk}
-use Rattle.constants.specs.Entry.{Constant, nil as knil}
-use Rattle.constants.specs.Distinct.{constantAt}
+use Rattle.constants.specs.Entry.{Constant, nil as knil, constantAt}
 use Rattle.model.specs.Values.{Value, valueOf, first, fit, World}
 use Rattle.model.specs.Running as run
 use Rattle.model.specs.Running.{Program, Open, Machine, After, goes, next}

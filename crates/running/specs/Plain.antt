@@ -11,8 +11,8 @@ use lib.Seq.{sets}
 use borrow.Author.Tests.{lt-ltb, le-leb}
 use Rattle.instructions.specs.Limits.{maxStack}
 use Rattle.instructions.specs.Word.{opcodeOf, aOf, bOf, cOf, bxOf, abcOf, aBxOf}
-use Rattle.instructions.specs.declared.OpCode.{OpCode}
-use Rattle.instructions.specs.declared.OpCode.the-variants as op
+use Rattle.opcodes.specs.declared.OpCode.{OpCode}
+use Rattle.opcodes.specs.declared.OpCode.the-variants as op
 use Rattle.folding.specs.declared.Arith.{Arith}
 use Rattle.folding.specs.declared.Arith.the-variants as arith
 use Rattle.constants.specs.Entry.{Constant, number as knumber, text as ktext}

@@ -10,9 +10,8 @@ use lib.ListN.{length, getD}
 use borrow.Author.Tests.{ne-eqb}
 use Rattle.instructions.specs.Limits.{maxStack, maxConstants}
 use Rattle.instructions.specs.Word.{opcodeOf, abcOf}
-use Rattle.instructions.specs.declared.OpCode.the-variants as op
-use Rattle.constants.specs.Entry.{Constant, nil as knil}
-use Rattle.constants.specs.Distinct.{constantAt}
+use Rattle.opcodes.specs.declared.OpCode.the-variants as op
+use Rattle.constants.specs.Entry.{Constant, nil as knil, constantAt}
 use Rattle.model.specs.Values.{Value, World, fit}
 use Rattle.model.specs.Jumps.{word}
 use Rattle.model.specs.Running as run

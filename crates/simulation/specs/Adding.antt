@@ -9,6 +9,7 @@ use borrow.Author.Tests.{leb-true, leb-false, lt-ltb, le-ltb}
 use Rattle.instructions.specs.Limits.{maxIndexRk}
 use Rattle.constants.specs.Entry.{Constant, constantOf, holds}
 use Rattle.constants.specs.Table.{Out, find, added as addedTo}
+use Rattle.constants.specs.Laws.{late-added}
 use Rattle.constants.specs.Distinct.{Short}
 use Rattle.constants.specs.declared.Table.{Table}
 use Rattle.constants.specs.declared.Val.{Val}
@@ -69,7 +70,7 @@ module _ (Γ : Env) (s : State) (m : Buffers) {t : List Constant} (tab : Tabled 
       }
 
       go : (a : Added) → o .answer ≡ a → Ends (keep (o .answer) s m₁) (λ i s′ m′. (i ≡ place k t) × ((s′ .frame ≡ s .frame) × ((m′ .code ≡ m .code) × Adds Γ s m t k s′ m′)))
-      go (answer.Refused r) e = rw e (refuses r m₁ refl)
+      go (answer.Refused r) e = rw e (refuses r m₁ (late-added chunk (s .table) v (m .kinds) (m .values) (m .pool) r e) refl)
       go (answer.At i b) e =
           let q = tabled-added tab chunk v short i b (o .kinds) (o .values) (o .pool) (rw e refl) in
           rw e (gives i (with-table b s) m₁ refl (q .0, (refl, (refl, moved b (q .1)))))

@@ -1,4 +1,4 @@
--- `code_arith` and `code_unary` stand for `ariJoin`, `negJoin` and `lenJoin`: numerals fold on both sides alike; else the operands go to RK, the right one first, are freed, and the word is emitted that wants its register.
+-- `code_arith` stands for `ariJoin`: numerals fold on both sides alike; else the operands go to RK, the right one first, are freed, and the word is emitted that wants its register.
 use Prim.Native.Nat.{ℕ, _+_, _%_, _≤_}
 use mathlib.Core.Bool.{Bool, true, false, _&&_}
 use mathlib.Core.Path.{_≡_, refl, sym, ap, _∙_, subst}

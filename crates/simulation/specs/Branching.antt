@@ -7,11 +7,11 @@ use mathlib.Core.Option.{none}
 use native.Mathlib.Omega.{arith}
 use lib.Dec.{eqb}
 use Rattle.instructions.specs.Limits.{noReg, maxWords}
-use Rattle.instructions.specs.OpCodes.{codeOf}
+use Rattle.opcodes.specs.OpCodes.{codeOf}
 use Rattle.instructions.specs.Word.{bOf, abcOf}
 use Rattle.instructions.specs.Laws.{op-abc, b-abc}
-use Rattle.instructions.specs.declared.OpCode.{OpCode}
-use Rattle.instructions.specs.declared.OpCode.the-variants as op
+use Rattle.opcodes.specs.declared.OpCode.{OpCode}
+use Rattle.opcodes.specs.declared.OpCode.the-variants as op
 use Rattle.folding.specs.declared.Arith.the-variants as ar
 use Rattle.constants.specs.Entry.{Constant, nil, truth, number, text}
 use Rattle.model.specs.Values.{Kind, nil as vnil, truth as vtruth, number as vnumber, text as vtext, other}

@@ -7,9 +7,9 @@ use mathlib.Core.List.{_∷_}
 use native.Mathlib.Omega.{arith}
 use lib.ListN.{set}
 use lib.Dec.{eqb}
-use Rattle.instructions.specs.OpCodes.{codeOf}
+use Rattle.opcodes.specs.OpCodes.{codeOf}
 use Rattle.instructions.specs.Word.{setBOf, abcOf}
-use Rattle.instructions.specs.declared.OpCode.the-variants as op
+use Rattle.opcodes.specs.declared.OpCode.the-variants as op
 use Rattle.folding.specs.declared.Arith.the-variants as ar
 use Rattle.constants.specs.Entry.{Constant, nil as knil, truth as ktruth, number as knumber, text as ktext}
 use Rattle.model.specs.Values.{nil, truth, number, text, other}

@@ -10,10 +10,10 @@ use lib.ListN.{length, getD, length-append, List·getD-append}
 use lib.Seq.{getD-append-seam}
 use lib.Dec.{ltb}
 use borrow.Author.Tests.{ltb-true, ltb-false}
-use Rattle.constants.specs.Entry.{Constant, nil, constantOf, holds}
+use Rattle.constants.specs.Entry.{Constant, nil, constantOf, holds, constantAt}
 use Rattle.constants.specs.Laws.{holds-true, holds-false, find-at, find-nothing, added-there}
 use Rattle.constants.specs.Table.{Out, out, find, added as addedTo}
-use Rattle.constants.specs.Distinct.{constantAt, Short, Grew, good-added, good-empty}
+use Rattle.constants.specs.Distinct.{Short, Grew, good-added, good-empty}
 use Rattle.constants.specs.declared.Table.{Table}
 use Rattle.constants.specs.declared.Val.{Val}
 use Rattle.constants.specs.declared.Found.{Found}

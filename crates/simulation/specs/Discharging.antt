@@ -8,9 +8,10 @@ use lib.ListN.{set}
 use lib.Seq.{set-getD}
 use Rattle.instructions.specs.Field.{setAt}
 use Rattle.instructions.specs.Word.{setBOf, setCOf, abcOf, aBxOf}
-use Rattle.instructions.specs.Laws.{a-abc, code-lt}
-use Rattle.instructions.specs.declared.OpCode.{OpCode}
-use Rattle.instructions.specs.declared.OpCode.the-variants as op
+use Rattle.opcodes.specs.Laws.{code-lt}
+use Rattle.instructions.specs.Laws.{a-abc}
+use Rattle.opcodes.specs.declared.OpCode.{OpCode}
+use Rattle.opcodes.specs.declared.OpCode.the-variants as op
 use Rattle.constants.specs.Entry.{Constant, nil, truth, number, text}
 use Rattle.model.specs.declared.ExprKind.{ExprKind}
 use Rattle.model.specs.declared.ExprKind.the-variants as kind

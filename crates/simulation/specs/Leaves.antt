@@ -8,14 +8,14 @@ use native.Mathlib.Omega.{arith}
 use lib.ListN.{length, set}
 use lib.Seq.{set-getD}
 use Rattle.instructions.specs.Word.{abcOf}
-use Rattle.instructions.specs.declared.OpCode.the-variants as op
+use Rattle.opcodes.specs.declared.OpCode.the-variants as op
 use Rattle.folding.specs.Numeral.{numeralOf}
 use Rattle.constants.specs.Entry.{nil, truth, number, text}
 use Rattle.constants.specs.declared.Val.the-variants as val
 use Rattle.cursor.specs.Fields.{bytesOf}
 use Rattle.cursor.specs.declared.Text.{Text}
-use Rattle.nodes.specs.declared.ast.Leaf.{Leaf}
-use Rattle.nodes.specs.declared.ast.Leaf.the-variants as leaf
+use Rattle.ast.specs.declared.Leaf.{Leaf}
+use Rattle.ast.specs.declared.Leaf.the-variants as leaf
 use Rattle.chunk.specs.Headers.{namesAt}
 use Rattle.chunk.specs.Form.{namesOf}
 use Rattle.chunk.specs.declared.header.Header.{Header}

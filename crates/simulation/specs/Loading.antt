@@ -1,4 +1,4 @@
--- A discharged descriptor goes to a register: `free_expr`, `discharge2reg` with the comparison's jump joined to its list, and the whole of `exp2reg` and `exp2nextreg`, which stand for `d2r`, `e2r` and `nextreg`.
+-- A discharged descriptor goes to a register: `free_expr`, and `discharge2reg` with the comparison's jump joined to its list, which stands for `d2r`.
 use Prim.Native.Nat.{ℕ, suc, _+_, _≤_, _<_}
 use mathlib.Core.Bool.{Bool, true, false, not}
 use mathlib.Core.Path.{_≡_, refl, sym, ap, _∙_, subst}
@@ -10,9 +10,9 @@ use borrow.Author.Tests.{lt-ltb}
 use Rattle.instructions.specs.Limits.{maxWords}
 use Rattle.instructions.specs.Field.{setAt}
 use Rattle.instructions.specs.Word.{setAOf, abcOf, aBxOf}
-use Rattle.instructions.specs.Laws.{code-lt}
-use Rattle.instructions.specs.declared.OpCode.{OpCode}
-use Rattle.instructions.specs.declared.OpCode.the-variants as op
+use Rattle.opcodes.specs.Laws.{code-lt}
+use Rattle.opcodes.specs.declared.OpCode.{OpCode}
+use Rattle.opcodes.specs.declared.OpCode.the-variants as op
 use Rattle.constants.specs.Entry.{Constant, nil, truth, number, text}
 use Rattle.model.specs.declared.ExprKind.{ExprKind}
 use Rattle.model.specs.declared.ExprKind.the-variants as kind

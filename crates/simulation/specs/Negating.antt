@@ -7,7 +7,7 @@ use mathlib.Core.Option.{none}
 use native.Mathlib.Omega.{arith}
 use lib.ListN.{length}
 use Rattle.instructions.specs.Word.{abcOf}
-use Rattle.instructions.specs.declared.OpCode.the-variants as op
+use Rattle.opcodes.specs.declared.OpCode.the-variants as op
 use Rattle.constants.specs.Entry.{Constant, nil, truth, number, text}
 use Rattle.model.specs.Values.{Kind}
 use Rattle.model.specs.declared.ExprKind.the-variants as kind

@@ -10,11 +10,12 @@ use lib.ListN.{set}
 use lib.Dec.{eqb, leb, ltb}
 use borrow.Author.Tests.{le-leb, lt-leb, eq-eqb, ne-eqb, leb-true, leb-false, ltb-true, ltb-false}
 use Rattle.instructions.specs.Field.{setAt}
-use Rattle.instructions.specs.OpCodes.{codeOf}
+use Rattle.opcodes.specs.OpCodes.{codeOf}
 use Rattle.instructions.specs.Word.{aOf, bOf, setBOf, abcOf}
-use Rattle.instructions.specs.Laws.{op-abc, a-abc, b-abc, code-lt}
-use Rattle.instructions.specs.declared.OpCode.{OpCode}
-use Rattle.instructions.specs.declared.OpCode.the-variants as op
+use Rattle.opcodes.specs.Laws.{code-lt}
+use Rattle.instructions.specs.Laws.{op-abc, a-abc, b-abc}
+use Rattle.opcodes.specs.declared.OpCode.{OpCode}
+use Rattle.opcodes.specs.declared.OpCode.the-variants as op
 use Rattle.constants.specs.Entry.{Constant}
 use Rattle.folding.specs.declared.Arith.the-variants as ar
 use Rattle.model.specs.Values.{nil, truth, number, text, other}

@@ -7,16 +7,16 @@ use lib.ListN.{length}
 use Rattle.cursor.specs.Fields.{bytesOf}
 use Rattle.cursor.specs.declared.Text.{Text}
 use Rattle.nodes.specs.Nodes.{nodeAt}
-use Rattle.nodes.specs.declared.ast.UnOp.the-variants as un
-use Rattle.nodes.specs.declared.ast.One.{One}
-use Rattle.nodes.specs.declared.ast.One.the-variants as one
-use Rattle.nodes.specs.declared.ast.Leaf.{Leaf}
-use Rattle.nodes.specs.declared.ast.Two.{Two}
-use Rattle.nodes.specs.declared.ast.Many.{Many}
-use Rattle.nodes.specs.declared.ast.Many.the-variants as many
-use Rattle.nodes.specs.declared.ast.Head.{Head}
-use Rattle.nodes.specs.declared.ast.Head.the-variants as head
-use Rattle.nodes.specs.declared.ast.Node.{Node}
+use Rattle.ast.specs.declared.UnOp.the-variants as un
+use Rattle.ast.specs.declared.One.{One}
+use Rattle.ast.specs.declared.One.the-variants as one
+use Rattle.ast.specs.declared.Leaf.{Leaf}
+use Rattle.ast.specs.declared.Two.{Two}
+use Rattle.ast.specs.declared.Many.{Many}
+use Rattle.ast.specs.declared.Many.the-variants as many
+use Rattle.ast.specs.declared.Head.{Head}
+use Rattle.ast.specs.declared.Head.the-variants as head
+use Rattle.ast.specs.declared.Node.{Node}
 use Rattle.nodes.specs.declared.node.NodeRead.{NodeRead}
 use Rattle.nodes.specs.declared.node.NodeRead.the-variants as read
 use Rattle.chunk.specs.Ast.{Span, Expr, leaf as leaf-node, one as one-node, two as two-node, many as many-node, Exprs, none as no-more, more}

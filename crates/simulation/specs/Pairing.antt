@@ -8,9 +8,9 @@ use native.Mathlib.Omega.{arith}
 use lib.ListN.{length}
 use Rattle.folding.specs.declared.Arith.{Arith}
 use Rattle.folding.specs.declared.Arith.the-variants as ar
-use Rattle.nodes.specs.declared.ast.BinOp.the-variants as bin
-use Rattle.nodes.specs.declared.ast.Two.{Two}
-use Rattle.nodes.specs.declared.ast.Two.the-variants as two
+use Rattle.ast.specs.declared.BinOp.the-variants as bin
+use Rattle.ast.specs.declared.Two.{Two}
+use Rattle.ast.specs.declared.Two.the-variants as two
 use Rattle.chunk.specs.declared.header.Header.{Header}
 use Rattle.constants.specs.Entry.{number}
 use Rattle.cursor.specs.declared.Text.{Text}

@@ -9,7 +9,7 @@ use lib.Dec.{eqb, leb, ltb}
 use lib.Ieee.{binary64, ofBits}
 use Rattle.instructions.specs.Limits.{maxStack, bitRk}
 use Rattle.instructions.specs.Word.{abcOf}
-use Rattle.instructions.specs.declared.OpCode.the-variants as op
+use Rattle.opcodes.specs.declared.OpCode.the-variants as op
 use Rattle.constants.specs.Entry.{Constant, nil, truth, number, text}
 use Rattle.model.specs.declared.ExprKind.the-variants as kind
 use Rattle.model.specs.declared.ExprContext.{ExprContext}

@@ -5,9 +5,9 @@ use mathlib.Core.List.{List}
 use mathlib.Core.Option.{some}
 use lib.ListN.{length, getD}
 use Rattle.instructions.specs.Limits.{maxConstants}
-use Rattle.constants.specs.Entry.{Constant, nil}
+use Rattle.constants.specs.Entry.{Constant, nil, constantAt}
 use Rattle.constants.specs.declared.Table.{Table}
-use Rattle.constants.specs.Distinct.{constantAt, Good}
+use Rattle.constants.specs.Distinct.{Good}
 
 -- a text has at most 65,535 bytes, so that those of all texts are fewer than 2 ^ 48
 pub record Tabled (t : List Constant) (b : Table) (ks ws pool : List ℕ) : Type 0 where

@@ -1,45 +1,31 @@
 -- Texts of a node are short: a length of two bytes is below 65,536. By the cases of reading a node, none of which changes a length.
-use Prim.Native.Nat.{ℕ, zero, suc, _+_, _≤_, _<_, _/_, _%_}
+use Prim.Native.Nat.{ℕ, zero, suc, _+_, _≤_, _<_}
 use mathlib.Core.Bool.{Bool, true, false}
 use mathlib.Core.List.{List, [], _∷_}
 use native.Mathlib.Omega.{arith}
 use lib.ListN.{length, getD, take, drop}
-use lib.Dec.{eqb}
-use Rattle.refusals.specs.declared.Refusal.{Refusal}
 use Rattle.constants.specs.Entry.{part}
 use Rattle.constants.specs.Distinct.{Short}
 use Rattle.constants.specs.declared.Val.the-variants as val
-use Rattle.cursor.specs.Fields.{le2, hasBytes, byteAt, lineAt, bitsAt, textAt, endOf}
+use Rattle.cursor.specs.Fields.{le2, hasBytes, byteAt, bitsAt, textAt, endOf}
 use Rattle.cursor.specs.declared.Text.{Text}
-use Rattle.cursor.specs.declared.ByteRead.{ByteRead}
-use Rattle.cursor.specs.declared.ByteRead.the-variants.{Byte, NoByte}
-use Rattle.cursor.specs.declared.LineRead.{LineRead}
-use Rattle.cursor.specs.declared.LineRead.the-variants.{Line, NoLine}
-use Rattle.cursor.specs.declared.BitsRead.{BitsRead}
-use Rattle.cursor.specs.declared.BitsRead.the-variants.{Bits, NoBits}
 use Rattle.cursor.specs.declared.TextRead.{TextRead}
 use Rattle.cursor.specs.declared.TextRead.the-variants as text
-use Rattle.nodes.specs.Kinds.{kindOf, mapOf}
-use Rattle.nodes.specs.Nodes.{withByte, withLine, withBits, withText, withKind, withBinOp, withUnOp, require, missing, unknown, fieldsAt, nodeAt}
-use Rattle.nodes.specs.Operators.{binOpOf, unOpOf}
-use Rattle.nodes.specs.declared.ast.Kind.{Kind}
-use Rattle.nodes.specs.declared.ast.Kind.the-variants as k
-use Rattle.nodes.specs.declared.ast.KindRead.{KindRead}
-use Rattle.nodes.specs.declared.ast.KindRead.the-variants as kind
-use Rattle.nodes.specs.declared.ast.BinOp.{BinOp}
-use Rattle.nodes.specs.declared.ast.BinOpRead.{BinOpRead}
-use Rattle.nodes.specs.declared.ast.BinOpRead.the-variants as bin
-use Rattle.nodes.specs.declared.ast.UnOp.{UnOp}
-use Rattle.nodes.specs.declared.ast.UnOpRead.{UnOpRead}
-use Rattle.nodes.specs.declared.ast.UnOpRead.the-variants as un
-use Rattle.nodes.specs.declared.ast.Leaf.{Leaf}
-use Rattle.nodes.specs.declared.ast.Leaf.the-variants as leaf
-use Rattle.nodes.specs.declared.ast.One.{One}
-use Rattle.nodes.specs.declared.ast.One.the-variants as one
-use Rattle.nodes.specs.declared.ast.Many.{Many}
-use Rattle.nodes.specs.declared.ast.Many.the-variants as many
-use Rattle.nodes.specs.declared.ast.Head.{Head}
-use Rattle.nodes.specs.declared.ast.Head.the-variants as head
+use Rattle.nodes.specs.Nodes.{withText, missing, fieldsAt, frontAt, withFront, nodeAt}
+use Rattle.nodes.specs.Reads.{on-byte, on-bits, on-bin, on-un, on-require}
+use Rattle.ast.specs.Operators.{binOpOf, unOpOf}
+use Rattle.ast.specs.declared.Kind.{Kind}
+use Rattle.ast.specs.declared.Kind.the-variants as k
+use Rattle.ast.specs.declared.Leaf.{Leaf}
+use Rattle.ast.specs.declared.Leaf.the-variants as leaf
+use Rattle.ast.specs.declared.One.{One}
+use Rattle.ast.specs.declared.One.the-variants as one
+use Rattle.ast.specs.declared.Many.{Many}
+use Rattle.ast.specs.declared.Many.the-variants as many
+use Rattle.ast.specs.declared.Head.{Head}
+use Rattle.ast.specs.declared.Head.the-variants as head
+use Rattle.nodes.specs.declared.node.Front.{Front}
+use Rattle.nodes.specs.declared.node.Front.the-variants as front
 use Rattle.nodes.specs.declared.node.NodeRead.{NodeRead}
 use Rattle.nodes.specs.declared.node.NodeRead.the-variants as read
 
@@ -101,55 +87,27 @@ module _ (s : List ℕ) (b : Bytes s) where
       go true false = tt
       go false y = tt
 
-  short-byte : (x : ByteRead) (f : ℕ → NodeRead) → ((n : ℕ) → ShortNode s (f n)) → ShortNode s (withByte x missing f)
-  short-byte NoByte f g = tt
-  short-byte (Byte n) f g = g n
-
-  short-line : (x : LineRead) (f : ℕ → NodeRead) → ((n : ℕ) → ShortNode s (f n)) → ShortNode s (withLine x missing f)
-  short-line NoLine f g = tt
-  short-line (Line n) f g = g n
-
-  short-bits : (x : BitsRead) (f : ℕ → NodeRead) → ((n : ℕ) → ShortNode s (f n)) → ShortNode s (withBits x missing f)
-  short-bits NoBits f g = tt
-  short-bits (Bits n) f g = g n
-
-  short-kind : (x : KindRead) (f : Kind → NodeRead) → ((y : Kind) → ShortNode s (f y)) → ShortNode s (withKind x unknown f)
-  short-kind kind.Unknown f g = tt
-  short-kind (kind.Known y) f g = g y
-
-  short-bin : (x : BinOpRead) (f : BinOp → NodeRead) → ((y : BinOp) → ShortNode s (f y)) → ShortNode s (withBinOp x unknown f)
-  short-bin bin.Unknown f g = tt
-  short-bin (bin.Known y) f g = g y
-
-  short-un : (x : UnOpRead) (f : UnOp → NodeRead) → ((y : UnOp) → ShortNode s (f y)) → ShortNode s (withUnOp x unknown f)
-  short-un un.Unknown f g = tt
-  short-un (un.Known y) f g = g y
-
-  short-require : (x : Bool) (r : Refusal) (f : Unit {0} → NodeRead) → ShortNode s (f tt) → ShortNode s (require x (read.Refused r) f)
-  short-require true r f g = g
-  short-require false r f g = tt
-
   short-fields : (va : Bool) (y : Kind) (at line : ℕ) → ShortNode s (fieldsAt s va y at line)
   unfolding fieldsAt
   short-fields va k.Nil at line = tt
   short-fields va k.True at line = tt
   short-fields va k.False at line = tt
-  short-fields va k.Number at line = short-bits (bitsAt s at) _ (λ n. tt)
+  short-fields va k.Number at line = on-bits (ShortNode s) _ tt (bitsAt s at) _ (λ n e. tt)
   short-fields va k.Str at line = short-text at _ (λ t h. h)
-  short-fields va k.VarArg at line = short-require va _ _ tt
+  short-fields va k.VarArg at line = on-require (ShortNode s) _ tt va _ tt
   short-fields va k.Name at line = short-text at _ (λ t h. h)
-  short-fields va k.Binary at line = short-byte (byteAt s at) _ (λ n. short-bin (binOpOf n) _ (λ y. tt))
-  short-fields va k.Unary at line = short-byte (byteAt s at) _ (λ n. short-un (unOpOf n) _ (λ y. tt))
+  short-fields va k.Binary at line = on-byte (ShortNode s) _ tt (byteAt s at) _ (λ n e. on-bin (ShortNode s) _ tt (binOpOf n) _ (λ y. tt))
+  short-fields va k.Unary at line = on-byte (ShortNode s) _ tt (byteAt s at) _ (λ n e. on-un (ShortNode s) _ tt (unOpOf n) _ (λ y. tt))
   short-fields va k.Index at line = tt
   short-fields va k.Field at line = short-text at _ (λ t h. h)
-  short-fields va k.MethodCall at line = short-text at _ (λ t h. short-byte (byteAt s (endOf t)) _ (λ n. h))
-  short-fields va k.Call at line = short-byte (byteAt s at) _ (λ n. tt)
+  short-fields va k.MethodCall at line = short-text at _ (λ t h. on-byte (ShortNode s) _ tt (byteAt s (endOf t)) _ (λ n e. h))
+  short-fields va k.Call at line = on-byte (ShortNode s) _ tt (byteAt s at) _ (λ n e. tt)
   short-fields va k.Paren at line = tt
+
+  short-front : (va : Bool) (f : Front) → ShortNode s (withFront f (fieldsAt s va))
+  short-front va (front.Front y at line) = short-fields va y at line
+  short-front va (front.Refused r) = tt
 
   pub short-node : (va : Bool) (at line : ℕ) → ShortNode s (nodeAt s va at line)
   unfolding nodeAt
-  short-node va at line = short-byte (byteAt s at) _ (λ n. short-kind (kindOf n) _ (λ y. short-byte (byteAt s (at + 1)) _ (λ m. short-require (eqb (m / 2) (mapOf y)) _ _ (go y (eqb (m % 2) 0)))))
-    where
-      go : (y : Kind) (x : Bool) → ShortNode s (elim x as (λ (_ : Bool). NodeRead) [ true ↦ fieldsAt s va y (at + 2) line | false ↦ withLine (lineAt s (at + 2)) missing (λ l. fieldsAt s va y (at + 6) l) ])
-      go y true = short-fields va y (at + 2) line
-      go y false = short-line (lineAt s (at + 2)) _ (λ l. short-fields va y (at + 6) l)
+  short-node va at line = short-front va (frontAt s at line)

@@ -1,4 +1,4 @@
--- A descriptor goes to a register: `exp2reg`, `exp2nextreg` and `exp2anyreg` stand for `e2r`, `nextreg` and `anyreg`. Labelled code gives the register before it is free: none of its steps look at that.
+-- A descriptor goes to a register: `exp2reg` and `exp2nextreg` stand for `e2r` and `nextreg`. Labelled code gives the register before it is free: none of its steps look at that.
 use Prim.Native.Nat.{ℕ, suc, _+_, _≤_, _<_}
 use mathlib.Core.Bool.{Bool, true, false}
 use mathlib.Core.Path.{_≡_, refl, sym, ap, _∙_}

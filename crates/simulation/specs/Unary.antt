@@ -1,4 +1,4 @@
--- Negation and length: `code_unop` stands for `negJoin` and `lenJoin`. A numeral is folded alike; else the operand is a register, which is freed, and the word is emitted that wants its own.
+-- Negation and length: `prefix` stands for `negJoin` and `lenJoin`. A numeral is folded alike; else the operand is a register, which is freed, and the word is emitted that wants its own.
 use Prim.Native.Nat.{ℕ, _≤_, _<_}
 use mathlib.Core.Bool.{Bool, true, false, _&&_}
 use mathlib.Core.Path.{_≡_, refl, sym, ap, _∙_}
@@ -7,8 +7,8 @@ use mathlib.Core.Option.{Option, some, none}
 use native.Mathlib.Omega.{arith}
 use lib.Ieee.{Float, binary64, ofBits}
 use Rattle.instructions.specs.Word.{abcOf}
-use Rattle.instructions.specs.declared.OpCode.{OpCode}
-use Rattle.instructions.specs.declared.OpCode.the-variants as op
+use Rattle.opcodes.specs.declared.OpCode.{OpCode}
+use Rattle.opcodes.specs.declared.OpCode.the-variants as op
 use Rattle.folding.specs.Folding.{foldOf}
 use Rattle.folding.specs.Laws.{fold-bits}
 use Rattle.folding.specs.declared.Arith.the-variants as ar
@@ -16,7 +16,7 @@ use Rattle.folding.specs.declared.Fold.{Fold}
 use Rattle.folding.specs.declared.Fold.the-variants.{Folded, Kept}
 use Rattle.constants.specs.Entry.{Constant, number}
 use Rattle.model.specs.Values.{folds}
-use Rattle.nodes.specs.declared.ast.UnOp.the-variants as un
+use Rattle.ast.specs.declared.UnOp.the-variants as un
 use Rattle.model.specs.declared.ExprKind.the-variants as kind
 use Rattle.model.specs.declared.ExprContext.{ExprContext}
 use Rattle.model.specs.declared.State.{State}

@@ -7,7 +7,7 @@ use native.Mathlib.Omega.{arith}
 use lib.ListN.{length, length-set}
 use Rattle.instructions.specs.Limits.{maxStack}
 use Rattle.instructions.specs.Word.{abcOf}
-use Rattle.instructions.specs.declared.OpCode.the-variants as op
+use Rattle.opcodes.specs.declared.OpCode.the-variants as op
 use Rattle.buffers.specs.Pad.{zeros}
 use Rattle.cursor.specs.declared.Text.{Text}
 use Rattle.chunk.specs.Ast.{Expr, Exprs, none as no-more, more}

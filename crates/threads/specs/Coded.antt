@@ -6,11 +6,11 @@ use mathlib.Core.Path.{_≡_, refl, _∙_}
 use mathlib.Core.List.{List, [], _∷_}
 use native.Mathlib.Omega.{arith as nat}
 use Rattle.instructions.specs.Limits.{maxIndexRk, bitRk}
-use Rattle.instructions.specs.OpCodes.{codeOf, testMode}
+use Rattle.opcodes.specs.OpCodes.{codeOf, testMode}
 use Rattle.instructions.specs.Word.{opOf, abcOf, aBxOf}
 use Rattle.instructions.specs.Laws.{op-abc, op-a-bx, opcode-abc, opcode-a-bx}
-use Rattle.instructions.specs.declared.OpCode.{OpCode}
-use Rattle.instructions.specs.declared.OpCode.the-variants as op
+use Rattle.opcodes.specs.declared.OpCode.{OpCode}
+use Rattle.opcodes.specs.declared.OpCode.the-variants as op
 use Rattle.folding.specs.declared.Arith.{Arith}
 use Rattle.folding.specs.declared.Arith.the-variants as arith
 use Rattle.constants.specs.Entry.{Constant, number as knumber, text as ktext}

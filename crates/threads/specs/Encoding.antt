@@ -7,11 +7,11 @@ use mathlib.Core.List.{List, [], _∷_}
 use native.Mathlib.Omega.{arith}
 use lib.Dec.{eqb}
 use Rattle.instructions.specs.Limits.{maxWords, noReg}
-use Rattle.instructions.specs.OpCodes.{codeOf, testMode}
+use Rattle.opcodes.specs.OpCodes.{codeOf, testMode}
 use Rattle.instructions.specs.Word.{opcodeOf, abcOf}
 use Rattle.instructions.specs.Laws.{opcode-a-bx}
-use Rattle.instructions.specs.declared.OpCode.{OpCode}
-use Rattle.instructions.specs.declared.OpCode.the-variants.{Jmp, Eq, Lt, Le, Test, TestSet}
+use Rattle.opcodes.specs.declared.OpCode.{OpCode}
+use Rattle.opcodes.specs.declared.OpCode.the-variants.{Jmp, Eq, Lt, Le, Test, TestSet}
 use Rattle.model.specs.Values.{Kind, global-read, index-read, call, equal, less, less-or-equal, length-of, concatenation, arithmetic}
 use Rattle.model.specs.Jumps.{word}
 use Rattle.model.specs.Conditions.{bit}

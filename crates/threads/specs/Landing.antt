@@ -9,7 +9,7 @@ use native.Mathlib.Omega.{arith}
 use lib.ListN.{length}
 use Rattle.instructions.specs.Limits.{maxWords, noReg}
 use Rattle.instructions.specs.Word.{abcOf}
-use Rattle.instructions.specs.declared.OpCode.the-variants.{LoadBool}
+use Rattle.opcodes.specs.declared.OpCode.the-variants.{LoadBool}
 use Rattle.model.specs.declared.State.{State}
 use Rattle.model.specs.declared.ExprContext.{ExprContext}
 use Rattle.model.specs.Values.{truth}

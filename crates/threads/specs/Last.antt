@@ -10,7 +10,7 @@ use lib.Dec.{eqb}
 use Rattle.instructions.specs.Limits.{maxWords, noReg, aSize}
 use Rattle.instructions.specs.Word.{aOf, setAOf, abcOf}
 use Rattle.instructions.specs.Laws.{a-abc}
-use Rattle.instructions.specs.declared.OpCode.the-variants.{Test}
+use Rattle.opcodes.specs.declared.OpCode.the-variants.{Test}
 use Rattle.model.specs.Values.{Kind}
 use Rattle.model.specs.Jumps.{word, get-jump-control}
 use Rattle.model.specs.Conditions.{bit}

@@ -8,7 +8,7 @@ use native.Mathlib.Omega.{arith}
 use lib.ListN.{length}
 use lib.Dec.{eqb}
 use Rattle.instructions.specs.Limits.{noReg}
-use Rattle.instructions.specs.declared.OpCode.the-variants.{Test, TestSet}
+use Rattle.opcodes.specs.declared.OpCode.the-variants.{Test, TestSet}
 use Rattle.model.specs.Jumps.{word, keeps-value, need-value}
 use Rattle.model.specs.Conditions.{bit}
 use Rattle.labelled.specs.Code.{same, same-refl, same-ne, Ctrl, always, test, tset, tseta, cmp, to, lbl, Instr, pl, br, Code, size}

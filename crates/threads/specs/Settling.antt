@@ -7,7 +7,7 @@ use mathlib.Core.List.{List, _∷_}
 use lib.ListN.{length}
 use Rattle.instructions.specs.Limits.{noReg}
 use Rattle.instructions.specs.Word.{abcOf}
-use Rattle.instructions.specs.declared.OpCode.the-variants.{LoadBool}
+use Rattle.opcodes.specs.declared.OpCode.the-variants.{LoadBool}
 use Rattle.model.specs.declared.State.{State}
 use Rattle.model.specs.declared.ExprContext.{ExprContext}
 use Rattle.model.specs.Values.{truth}

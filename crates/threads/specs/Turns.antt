@@ -10,11 +10,11 @@ use lib.ListN.{length, set, length-set}
 use lib.Dec.{eqb}
 use borrow.Author.Tests.{eqb-true}
 use Rattle.instructions.specs.Limits.{maxWords, noReg, bSize}
-use Rattle.instructions.specs.OpCodes.{codeOf, testMode}
+use Rattle.opcodes.specs.OpCodes.{codeOf, testMode}
 use Rattle.instructions.specs.Word.{opOf, abcOf}
 use Rattle.instructions.specs.Laws.{op-abc, b-abc, c-abc, opcode-abc}
-use Rattle.instructions.specs.declared.OpCode.{OpCode}
-use Rattle.instructions.specs.declared.OpCode.the-variants.{Test, TestSet}
+use Rattle.opcodes.specs.declared.OpCode.{OpCode}
+use Rattle.opcodes.specs.declared.OpCode.the-variants.{Test, TestSet}
 use Rattle.model.specs.Jumps.{word, isOp, get-jump-control, keeps-value, retest}
 use Rattle.model.specs.Conditions.{bit}
 use Rattle.labelled.specs.Code.{same, same-refl, same-false, Ctrl, always, test, tset, tseta, cmp, to, lbl, Instr, pl, br, Code, size, land, re, settest}

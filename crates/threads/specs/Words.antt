@@ -13,11 +13,12 @@ use lib.Dec.{eqb, ltb}
 use borrow.Author.Tests.{ltb-true, ltb-false}
 use Rattle.instructions.specs.Limits.{maxWords, noReg, cSize}
 use Rattle.instructions.specs.Field.{setAt}
-use Rattle.instructions.specs.OpCodes.{codeOf}
+use Rattle.opcodes.specs.OpCodes.{codeOf}
 use Rattle.instructions.specs.Word.{opOf, bOf, cOf, sbxOf, setAOf, setBxOf, excess, abcOf, aBxOf, aSbxOf}
-use Rattle.instructions.specs.Laws.{op-a-bx, InSbx, sbx-a-sbx, code-lt}
-use Rattle.instructions.specs.declared.OpCode.{OpCode}
-use Rattle.instructions.specs.declared.OpCode.the-variants.{Jmp, Test}
+use Rattle.opcodes.specs.Laws.{code-lt}
+use Rattle.instructions.specs.Laws.{op-a-bx, InSbx, sbx-a-sbx}
+use Rattle.opcodes.specs.declared.OpCode.{OpCode}
+use Rattle.opcodes.specs.declared.OpCode.the-variants.{Jmp, Test}
 use Rattle.labelled.specs.Code.{same}
 use Rattle.threads.specs.Edits.{pick-is}
 use Rattle.model.specs.Jumps.{word, behind, get-jump-target, patch-jump, linked, get-jump-control, keeps-value, retest, patch-test-reg, remove-values, patch-list-aux}

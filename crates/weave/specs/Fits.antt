@@ -1,13 +1,15 @@
 -- No list of `weavelist` is longer than its page, so nothing of one is ever lost: a number has at most 20 digits, and there are no more lines than words and constants lent. Assumes nothing but that the input is bytes.
 use Prim.Native.Nat.{ℕ, zero, suc, _+_, _*_, _/_, _%_, _≤_}
 use mathlib.Core.Bool.{Bool, true, false}
-use mathlib.Core.Path.{_≡_, refl, _∙_}
+use mathlib.Core.Path.{_≡_, refl, sym, ap, _∙_}
 use mathlib.Core.List.{List, [], _∷_, _++_}
 use native.Mathlib.Omega.{arith}
 use lib.ListN.{length, take, length-append, length-take}
 use lib.Dec.{leb, ltb}
+use borrow.Author.Tests.{le-leb}
 use Rattle.refusals.specs.Number.{numberOf}
 use Rattle.refusals.specs.declared.Refusal.the-variants as refusal
+use Rattle.buffers.specs.Pad.{pad}
 use Rattle.model.specs.declared.Lowered.{Lowered}
 use Rattle.model.specs.declared.Lowered.the-variants as answer
 use Rattle.model.specs.Steps.{Buffers}
@@ -15,8 +17,10 @@ use Rattle.model.specs.Claims.{Padded}
 use Rattle.model.specs.Lowering.{lowered}
 use Rattle.simulation.specs.Texts.{Bytes}
 use Rattle.padding.specs.Padded.{padded}
+use Rattle.listing.specs.declared.Listed.the-variants as listed
+use Rattle.listing.specs.Page.{Left, left, written}
 use Rattle.listing.specs.Listing.{decimal, glyph, hex, word-line, constant-line, word-lines, constant-lines, refusal-line, listing}
-use Rattle.weave.specs.Weave.{lent, maxInput, list-of, weavelist}
+use Rattle.weave.specs.Weave.{lent, maxInput, list-of, weavelist, maxPage, whole}
 
 digits : (k n : ℕ) → length (decimal k n) ≤ k
 unfolding decimal
@@ -66,7 +70,7 @@ all-constants i (k ∷ ks) (v ∷ vs) = let h = both 60 (60 * length ks) (consta
 taken : (n : ℕ) (l : List ℕ) → length (take n l) ≤ length l
 taken n l = omega (arith, length-take n l)
 
-a-list : (input : List ℕ) (a : Lowered) (m : Buffers) (s : List ℕ) → Padded lent input a m s → length (listing a (m .code) (m .lines) (m .kinds) (m .values)) ≤ 589824
+a-list : (input : List ℕ) (a : Lowered) (m : Buffers) (s : List ℕ) → Padded lent input a m s → length (listing a (m .code) (m .lines) (m .kinds) (m .values)) ≤ maxPage
 a-list input (answer.Refused k) m s p = let h = refused (numberOf k) in omega (arith, h)
 a-list input (answer.Done k) m s p =
     let c = all-words 0 (take (k .words) (m .code)) (take (k .words) (m .lines)) in
@@ -75,10 +79,30 @@ a-list input (answer.Done k) m s p =
     let few′ : length (take (k .constants) (m .kinds)) ≤ 2048 = omega (arith, taken (k .constants) (m .kinds), p .kinds .long) in
     simp length-append (omega (arith, digits 20 (k .words), digits 20 (k .constants), digits 20 (k .text), c, d, few, few′))
 
-pub fits : (input : List ℕ) → Bytes input → length (weavelist input) ≤ 589824
+pub fits : (input : List ℕ) → Bytes input → length (weavelist input) ≤ maxPage
 unfolding weavelist
 fits input bytes = go (leb (length input) maxInput)
   where
-    go : (b : Bool) → length {A = ℕ} (elim b as (λ (_ : Bool). List ℕ) [ true ↦ list-of (lowered lent input) | false ↦ refusal-line (numberOf refusal.TooLong) ]) ≤ 589824
+    go : (b : Bool) → length {A = ℕ} (elim b as (λ (_ : Bool). List ℕ) [ true ↦ list-of (lowered lent input) | false ↦ refusal-line (numberOf refusal.TooLong) ]) ≤ maxPage
     go true = a-list input (lowered lent input .answer) (lowered lent input .buffers) (lowered lent input .scratch) (padded lent input bytes)
     go false = let h = refused (numberOf refusal.TooLong) in omega (arith, h)
+
+-- ---- so a list is written whole
+
+written-within : (n : ℕ) (t : List ℕ) → length t ≤ n → written n t ≡ left (listed.Written (length t)) (pad n t)
+unfolding written
+written-within n t h = rw (written, le-leb (length t) n h) refl
+
+pub written-whole : (input : List ℕ) → Bytes input → written maxPage (weavelist input) ≡ whole (weavelist input)
+written-whole input bytes = written-within maxPage (weavelist input) (fits input bytes)
+
+-- the first bytes are bytes
+bytes-taken : (n : ℕ) (s : List ℕ) → Bytes s → Bytes (take n s)
+bytes-taken zero s b i = omega arith
+bytes-taken (suc n) [] b i = omega arith
+bytes-taken (suc n) (x ∷ s) b zero = b zero
+bytes-taken (suc n) (x ∷ s) b (suc i) = bytes-taken n s (λ j. b (suc j)) i
+
+-- what stands on a page of this length, of the bytes that were read
+pub read-whole : (n : ℕ) (s : List ℕ) {k : ℕ} {r : Left} → k ≡ maxPage → Bytes s → written k (weavelist (take n s)) ≡ r → whole (weavelist (take n s)) ≡ r
+read-whole n s q b e = sym (written-whole (take n s) (bytes-taken n s b)) ∙ ap (λ k. written k (weavelist (take n s))) (sym q) ∙ e

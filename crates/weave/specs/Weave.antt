@@ -6,8 +6,11 @@ use lib.ListN.{length}
 use lib.Dec.{leb}
 use Rattle.refusals.specs.Number.{numberOf}
 use Rattle.refusals.specs.declared.Refusal.the-variants as refusal
+use Rattle.buffers.specs.Pad.{pad}
 use Rattle.model.specs.Lowering.{Sizes, Out, lowered}
+use Rattle.listing.specs.declared.Listed.the-variants as listed
 use Rattle.listing.specs.Listing.{refusal-line, listing}
+use Rattle.listing.specs.Page.{Left, left}
 
 -- the buffers that the program lends
 abbrev pub lent : Sizes
@@ -27,3 +30,11 @@ weavelist input =
       | true ↦ list-of (lowered lent input)
       | false ↦ refusal-line (numberOf refusal.TooLong)
     ]
+
+-- the page that a list is written on, which holds every list (`fits`)
+abbrev pub maxPage : ℕ
+maxPage = 589824
+
+-- a list written whole: its length, and the page with the list and then zeros
+abbrev pub whole : List ℕ → Left
+whole t = left (listed.Written (length t)) (pad maxPage t)

@@ -1,11 +1,12 @@
 // The program `weavelist` as functions: the list of an input, in a lent buffer; and reading, listing, writing.
 ghost use mathlib.Core.Path.{_≡_};
 ghost use lib.ListN.{length, take};
-ghost use Rattle.emission.specs.Parts.{bufs};
+ghost use Rattle.model.specs.Steps.{bufs};
 ghost use Rattle.model.specs.Claims.{sizes};
 ghost use Rattle.model.specs.Lowering.{lowered};
+ghost use Rattle.simulation.specs.Texts.{Bytes};
 ghost use Rattle.listing.specs.Page.{left, written};
-ghost use Rattle.weave.specs.Weave.{list-of, weavelist as weavelistOf};
+ghost use Rattle.weave.specs.Weave.{list-of, weavelist as weavelistOf, whole};
 use listing::Listed;
 use listing::listing;
 use lowering::lower;
@@ -95,9 +96,9 @@ pub struct Woven {
 }
 
 // Reads what fits the input's buffer, lists it on the page and writes the list. The page and the answer are determined by the bytes read; which these are, and that
-// the list is written out, no contract can say.
+// the list is written out, no contract can say. What the input's buffer then holds are bytes, which the proof of `weavelist` needs.
 fn list_input(input: &mut [u8], page: &mut [u8]) -> Woven
-    ensures { λ r. ⌜ written (length (now (page .entry))) (weavelistOf (take (r .read) (now (input .exit)))) ≡ left (r .listed) (now (page .exit)) ⌝ }
+    ensures { λ r. ⌜ (written (length (now (page .entry))) (weavelistOf (take (r .read) (now (input .exit)))) ≡ left (r .listed) (now (page .exit))) × Bytes (now (input .exit)) ⌝ }
 {
     let n = io::read_full(0, input);
     let listed = weave(&input[..n], page);
@@ -110,9 +111,10 @@ fn list_input(input: &mut [u8], page: &mut [u8]) -> Woven
     Woven { read: n, listed }
 }
 
-// The program: its input's buffer has one byte more than is allowed, and no list is longer than its page (`fits`, specs/Fits.antt).
+// The program: its input's buffer has one byte more than is allowed. No list is longer than its page (`fits`, specs/Fits.antt), so the answer is never `Short`
+// and the list stands on the page whole.
 pub fn weavelist(input: &mut [u8; 65537], page: &mut [u8; 589824]) -> Woven
-    ensures { λ r. ⌜ written (length (now (page .entry))) (weavelistOf (take (r .read) (now (input .exit)))) ≡ left (r .listed) (now (page .exit)) ⌝ }
+    ensures { λ r. ⌜ whole (weavelistOf (take (r .read) (now (input .exit)))) ≡ left (r .listed) (now (page .exit)) ⌝ }
 {
     list_input(input, page)
 }

@@ -1,5 +1,5 @@
 use lib.ListN.{length}
-use Rattle.controller.specs.Laws.{told-is, clauses-told}
+use Rattle.controller.specs.Laws.{tells}
 use borrow.Author.Needs.{needs}
 use Rattle.controller.proofs.fuchsiarasp_lower.Statement.{statement}
 use Rattle.controller.proofs.fuchsiarasp_lower.Tie as tie
@@ -35,7 +35,7 @@ returns : tie.Need-returns
 returns c =
     let p16 = c .before .before .before .before .before .before .before .before .before .before .before .before .before .before .before .before in
     let p31 = p16 .before .before .before .before .before .before .before .before .before .before .before .before .before .before .before in
-    (told-is (length (p31 .args .counts .now)) (p16 .lower .result) ((p16 .lower .ensures) .0) (c .before .before .tell .ensures), clauses-told _ (p31 .args .chunk .now) (p16 .lower .result) ((p16 .lower .ensures) .0) ((p16 .lower .ensures) .1))
+    tells (length (p31 .args .counts .now)) _ (p31 .args .chunk .now) (p16 .lower .result) (p16 .lower .ensures) (c .before .before .tell .ensures)
 
 pub fuchsiarasp-lower-spec : {M : Type 1} → statement M
 fuchsiarasp-lower-spec =

@@ -1,6 +1,6 @@
 -- `emission::reserve_regs` meets its contract, by that of `check_stack`; registers that were found to fit add up. Assumes nothing.
 use mathlib.Core.List.{[]}
-use Rattle.emission.specs.Parts.{bufs}
+use Rattle.model.specs.Steps.{bufs}
 use native.Mathlib.Omega.{arith}
 use Rattle.emission.specs.Laws.{check-fits, reserve-done, reserve-refused}
 use borrow.Author.Needs.{needs}

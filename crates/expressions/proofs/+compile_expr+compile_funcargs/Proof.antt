@@ -4,7 +4,7 @@ use mathlib.Core.Path.{_≡_, refl, _∙_}
 use native.Mathlib.Omega.{arith}
 use lib.ListN.{length}
 use Rattle.model.specs.Expressions.{compile-expr as compile-expr-of, compile-funcargs as compile-funcargs-of}
-use Rattle.emission.specs.Parts.{bufs}
+use Rattle.model.specs.Steps.{bufs}
 use Rattle.discharge.specs.Laws.{described-told}
 use Rattle.expressions.specs.Paths.{expr-none, expr-refused, expr-leaf, expr-stopped, expr-one, expr-two, expr-many, args-none, args-last, args-stopped, args-more, args-full}
 use Rattle.expressions.proofs.Inner.{inner}

@@ -4,7 +4,7 @@ use lib.ListN.{length}
 use Rattle.chunk.specs.Form.{maxNesting}
 use Rattle.model.specs.Expressions.{compile-expr as compile-expr-of}
 use Rattle.model.specs.Lowering.{formulas as formulas-of}
-use Rattle.emission.specs.Parts.{bufs}
+use Rattle.model.specs.Steps.{bufs}
 use Rattle.discharge.specs.Laws.{described-told}
 use Rattle.lowering.specs.Laws.{formulas-none, formulas-stopped, formulas-more, formulas-full}
 use Rattle.lowering.proofs.formulas.Statement.{statement}

@@ -1,6 +1,6 @@
 use native.Mathlib.Omega.{arith}
 use lib.ListN.{length}
-use Rattle.emission.specs.Parts.{bufs}
+use Rattle.model.specs.Steps.{bufs}
 use Rattle.lowering.specs.Entry.{at-unformed, at-short, at-done, at-refused}
 use Rattle.lowering.specs.Running.{entry}
 use borrow.Author.Needs.{needs}

@@ -1,4 +1,4 @@
-use Rattle.emission.specs.Parts.{bufs}
+use Rattle.model.specs.Steps.{bufs}
 use mathlib.Core.Path.{_∙_}
 use native.Mathlib.Omega.{arith}
 use Rattle.calls.specs.Laws.{stepped-told}

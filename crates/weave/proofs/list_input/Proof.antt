@@ -47,7 +47,8 @@ returns : tie.Need-returns
 returns c =
     let p3 = c .before .before .before in
     let p7 = p3 .before .before .before .before in
-    listed-told (p7 .weave .ensures) (p3 .listed .given .1)
+    let p10 = p7 .before .before .before in
+    (listed-told (p7 .weave .ensures) (p3 .listed .given .1), λ i. omega (arith, p10 .slice-known3 .given i))
 
 same-length-3 : tie.Need-same-length-3
 same-length-3 c = search needs
@@ -56,7 +57,10 @@ same-length-4 : tie.Need-same-length-4
 same-length-4 c = search needs
 
 returns-2 : tie.Need-returns-2
-returns-2 c = search needs
+returns-2 c =
+    let p4 = c .before .before .before .before in
+    let p7 = p4 .before .before .before in
+    (p4 .weave .ensures, λ i. omega (arith, p7 .slice-known3 .given i))
 
 pub list-input-spec : {M : Type 1} → statement M
 list-input-spec =

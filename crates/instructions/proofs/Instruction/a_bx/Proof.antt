@@ -2,7 +2,7 @@
 use borrow.Author.Needs.{needs}
 use native.Mathlib.Omega.{arith}
 use Rattle.instructions.specs.Word.{aBxOf}
-use Rattle.instructions.specs.Laws.{code-lt}
+use Rattle.opcodes.specs.Laws.{code-lt}
 use Rattle.instructions.proofs.Instruction.a_bx.Statement.{statement}
 use Rattle.instructions.proofs.Instruction.a_bx.Tie as tie
 

@@ -2,7 +2,7 @@
 use borrow.Author.Needs.{needs}
 use native.Mathlib.Omega.{arith}
 use Rattle.instructions.specs.Word.{abcOf}
-use Rattle.instructions.specs.Laws.{code-lt}
+use Rattle.opcodes.specs.Laws.{code-lt}
 use Rattle.instructions.proofs.Instruction.abc.Statement.{statement}
 use Rattle.instructions.proofs.Instruction.abc.Tie as tie
 

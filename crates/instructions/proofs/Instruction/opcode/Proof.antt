@@ -1,7 +1,7 @@
 -- `instructions::Instruction::opcode` meets its contract, by those of `field` and `from_u32`. Assumes nothing.
 use borrow.Author.Needs.{needs}
 use mathlib.Core.Path.{ap, _∙_}
-use Rattle.instructions.specs.OpCodes.{opCodeOf}
+use Rattle.opcodes.specs.OpCodes.{opCodeOf}
 use Rattle.instructions.proofs.Instruction.opcode.Statement.{statement}
 use Rattle.instructions.proofs.Instruction.opcode.Tie as tie
 

@@ -1,0 +1,2 @@
+pub mod OpCodes
+pub mod Laws
