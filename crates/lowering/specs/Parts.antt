@@ -1,21 +1,12 @@
 -- Parts of the definitions that the code has functions for. Assumes nothing.
-use Prim.Native.Nat.{ℕ, _+_}
+use Prim.Native.Nat.{ℕ}
 use mathlib.Core.List.{List}
-use Rattle.opcodes.specs.declared.OpCode.the-variants as op
 use Rattle.buffers.specs.Pad.{zeros, pad}
-use Rattle.chunk.specs.declared.header.Header.{Header}
 use Rattle.chunk.specs.Headers.{headerAt}
 use Rattle.model.specs.declared.Lowered.{Lowered}
 use Rattle.model.specs.declared.Lowered.the-variants as answer
-use Rattle.model.specs.Steps.{Buffers, Step, _>>=_, _>>_, skip}
-use Rattle.model.specs.Emission.{emit-abc}
+use Rattle.model.specs.Steps.{Buffers}
 use Rattle.model.specs.Lowering.{Sizes, start, lower-chunk, Out, ended, with-header}
-
--- the end of `lower-chunk`
-abbrev pub returning : Header → Step (Unit {0})
-returning h = do
-  emit-abc op.Return (h .locals) (h .formulas + 1) 0
-  skip
 
 -- the end of `lower-formed`, from buffers m
 abbrev pub from-header : Sizes → List ℕ → List ℕ → Buffers → Out

@@ -1,15 +1,13 @@
-// The lowering of a whole chunk: the locals' registers, the formulas one after another, `Return`; and the entry `lower`, which clears, checks the form, and lowers (document 01, "Lowering" and "Refused chunks").
+// The entry `lower`, which clears, checks the form, and lowers (document 01, "Refused chunks").
 ghost use mathlib.Core.List.{List};
 ghost use mathlib.Core.Path.{_≡_};
 ghost use Prim.Native.Nat.{ℕ};
 ghost use lib.ListN.{length};
 ghost use Rattle.buffers.specs.Pad.{zeros};
-ghost use Rattle.chunk.specs.Form.{maxNesting};
-ghost use Rattle.model.specs.Steps.{steppedIs, bufs};
-ghost use Rattle.model.specs.Expressions.{compile-expr};
+ghost use Rattle.model.specs.Steps.{bufs};
 ghost use Rattle.model.specs.Claims.{sizes, Lowers};
-ghost use Rattle.model.specs.Lowering.{cleared, start, formulas as formulasOf, lower-chunk, out};
-ghost use Rattle.lowering.specs.Parts.{returning, from-header, scratch-of};
+ghost use Rattle.model.specs.Lowering.{cleared, start, out};
+ghost use Rattle.lowering.specs.Parts.{from-header, scratch-of};
 use buffers::clear_bytes;
 use buffers::clear_values;
 use buffers::clear_words;
@@ -19,106 +17,12 @@ use chunk::header::Header;
 use chunk::header::HeaderRead;
 use chunk::header::read_header;
 use constants::Table;
-use discharge::exp2nextreg;
-use emission::emit_abc;
-use emission::reserve_regs;
-use expressions::compile_expr;
+use formulas::lower_chunk;
 use model::Counts;
-use model::Described;
-use model::Given;
 use model::Lowered;
 use model::State;
 use model::Stepped;
-use opcodes::OpCode;
 use refusals::Refusal;
-
-// ---- formulas
-
-// Each of n formulas to the next register.
-fn formulas(
-    chunk: &[u8],
-    h: Header,
-    code: &mut [u32],
-    lines: &mut [u32],
-    kinds: &mut [u8],
-    values: &mut [u64],
-    pool: &mut [u8],
-    st: State,
-    n: usize,
-) -> Stepped
-    ensures { λ r. ⌜ formulasOf (compile-expr (now (chunk .entry)) h maxNesting) n st (bufs (now (code .entry)) (now (lines .entry)) (now (kinds .entry)) (now (values .entry)) (now (pool .entry))) ≡ steppedIs r (bufs (now (code .exit)) (now (lines .exit)) (now (kinds .exit)) (now (values .exit)) (now (pool .exit))) ⌝ }
-{
-    let mut s = st;
-    let mut rest = n;
-    while 0 < rest {
-        let formula = compile_expr(chunk, h, code, lines, kinds, values, pool, s, 200);
-        match formula {
-            Described::Done(t, e) => {
-                let placed = exp2nextreg(code, lines, kinds, values, pool, t, e);
-                match placed {
-                    Described::Done(u, _) => {
-                        s = u;
-                        rest -= 1;
-                    }
-                    Described::Refused(k) => {
-                        return Stepped::Refused(k);
-                    }
-                }
-            }
-            Described::Refused(k) => {
-                return Stepped::Refused(k);
-            }
-        }
-    }
-    Stepped::Done(s)
-}
-
-// `Return` with the locals' number, and one more than the formulas'; of that, what fits the field.
-fn add_return(code: &mut [u32], lines: &mut [u32], st: State, h: Header) -> Stepped
-    ensures { λ r. ⌜ ((ks vs p : List ℕ) → returning h st (bufs (now (code .entry)) (now (lines .entry)) ks vs p) ≡ steppedIs r (bufs (now (code .exit)) (now (lines .exit)) ks vs p)) ⌝ }
-{
-    let answer = emit_abc(
-        code,
-        lines,
-        st,
-        OpCode::Return,
-        h.locals,
-        h.formulas % 512 + 1,
-        0,
-    );
-    match answer {
-        Given::Done(s, _) => Stepped::Done(s),
-        Given::Refused(k) => Stepped::Refused(k),
-    }
-}
-
-// The locals take the first registers; the formulas; `Return`.
-fn lower_chunk(
-    chunk: &[u8],
-    h: Header,
-    code: &mut [u32],
-    lines: &mut [u32],
-    kinds: &mut [u8],
-    values: &mut [u64],
-    pool: &mut [u8],
-    st: State,
-) -> Stepped
-    ensures { λ r. ⌜ lower-chunk (now (chunk .entry)) h st (bufs (now (code .entry)) (now (lines .entry)) (now (kinds .entry)) (now (values .entry)) (now (pool .entry))) ≡ steppedIs r (bufs (now (code .exit)) (now (lines .exit)) (now (kinds .exit)) (now (values .exit)) (now (pool .exit))) ⌝ }
-{
-    let reserved = reserve_regs(st, h.locals);
-    match reserved {
-        Stepped::Done(s) => {
-            let lowered = formulas(chunk, h, code, lines, kinds, values, pool, s, h.formulas);
-            match lowered {
-                Stepped::Done(t) => add_return(code, lines, t, h),
-                Stepped::Refused(k) => Stepped::Refused(k),
-            }
-        }
-        Stepped::Refused(k) => Stepped::Refused(k),
-    }
-}
-
-// ---- the entry
 
 // Zeros only; a slice keeps its length.
 fn clear(code: &mut [u32], lines: &mut [u32], kinds: &mut [u8], values: &mut [u64], pool: &mut [u8])

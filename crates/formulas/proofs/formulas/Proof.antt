@@ -6,9 +6,9 @@ use Rattle.model.specs.Expressions.{compile-expr as compile-expr-of}
 use Rattle.model.specs.Lowering.{formulas as formulas-of}
 use Rattle.model.specs.Steps.{bufs}
 use Rattle.discharge.specs.Laws.{described-told}
-use Rattle.lowering.specs.Laws.{formulas-none, formulas-stopped, formulas-more, formulas-full}
-use Rattle.lowering.proofs.formulas.Statement.{statement}
-use Rattle.lowering.proofs.formulas.Tie as tie
+use Rattle.formulas.specs.Laws.{formulas-none, formulas-stopped, formulas-more, formulas-full}
+use Rattle.formulas.proofs.formulas.Statement.{statement}
+use Rattle.formulas.proofs.formulas.Tie as tie
 
 abbrev Inv-loop : tie.InvT-loop
 Inv-loop chunk h code₀ lines₀ kinds₀ values₀ pool₀ n s₀ rest₀ code lines kinds values pool s rest =

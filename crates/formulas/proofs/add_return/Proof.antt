@@ -1,8 +1,8 @@
 use Rattle.discharge.specs.Laws.{given-told}
-use Rattle.lowering.specs.Laws.{returning-done, returning-full}
+use Rattle.formulas.specs.Laws.{returning-done, returning-full}
 use borrow.Author.Needs.{needs}
-use Rattle.lowering.proofs.add_return.Statement.{statement}
-use Rattle.lowering.proofs.add_return.Tie as tie
+use Rattle.formulas.proofs.add_return.Statement.{statement}
+use Rattle.formulas.proofs.add_return.Tie as tie
 
 add-emit-abc : tie.Need-add-emit-abc
 add-emit-abc c = search needs

@@ -1,8 +1,8 @@
 use Rattle.calls.specs.Laws.{stepped-told}
-use Rattle.lowering.specs.Laws.{chunk-registers, chunk-formulas, chunk-ends}
+use Rattle.formulas.specs.Laws.{chunk-registers, chunk-formulas, chunk-ends}
 use borrow.Author.Needs.{needs}
-use Rattle.lowering.proofs.lower_chunk.Statement.{statement}
-use Rattle.lowering.proofs.lower_chunk.Tie as tie
+use Rattle.formulas.proofs.lower_chunk.Statement.{statement}
+use Rattle.formulas.proofs.lower_chunk.Tie as tie
 
 reserve-regs-requires : tie.Need-reserve-regs-requires
 reserve-regs-requires c κs = search needs
