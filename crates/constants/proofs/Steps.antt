@@ -8,9 +8,11 @@ use native.Mathlib.Nat.{zero-min, min-zero}
 use native.Mathlib.Numerals.{add-one}
 use native.Mathlib.Omega.{arith}
 use lib.ListN.{length, getD, take, drop, set, drop-of-length-le, length-drop}
-use lib.Seq.{drop-cons, take-nil, take-all, sets}
+use lib.Seq.{drop-cons, take-nil, take-all, length-take-le, sets}
 use lib.Dec.{eqb, leb}
+use borrow.Author.Count.{below-more}
 use borrow.Author.Tests.{eqb-true, eqb-false}
+use Rattle.laws.specs.Truth.{or-false}
 use Rattle.refusals.specs.declared.Refusal.the-variants.{Pool}
 use Rattle.constants.specs.declared.Val.{Val}
 use Rattle.constants.specs.declared.Val.the-variants.{Truth}
@@ -20,6 +22,7 @@ use Rattle.constants.specs.declared.Found.the-variants.{At, Nothing}
 use Rattle.constants.specs.declared.Added.{Added}
 use Rattle.constants.specs.declared.Added.the-variants as Added-variants
 use Rattle.constants.specs.Entry.{Constant, truth, constantOf, entryOf, isConstant, same, holds}
+use Rattle.constants.specs.Fours.{fourOf, FourBytes, inFour, Without}
 use Rattle.constants.specs.Table.{find, later, stored, storedText, append, out}
 use Rattle.constants.specs.Laws.{find-hit, find-miss, find-at, other-kind, kindOf}
 
@@ -30,12 +33,31 @@ pub tails-end : (a b : List ℕ) (k : ℕ) → length a ≤ k → length b ≤ k
 tails-end a b k h g = rw (drop-of-length-le a h, drop-of-length-le b g)
 
 -- tails that are the same, and the element before each
+tails-cons : (a b : List ℕ) (i : ℕ) → i < length a → i < length b → drop (suc i) a ≡ drop (suc i) b → getD a i 0 ≡ getD b i 0 → drop i a ≡ drop i b
+tails-cons a b i h g e q = rw (drop-cons a i 0 h, drop-cons b i 0 g, e, q)
+
 pub tails-more : (a b : List ℕ) (k : ℕ) → 0 < k → k ≤ length a → k ≤ length b → drop k a ≡ drop k b → getD a (k - 1) 0 ≡ getD b (k - 1) 0 → drop (k - 1) a ≡ drop (k - 1) b
 tails-more a b k m h g e q =
     let s : suc (k - 1) ≡ k = omega arith in
-    let i : k - 1 < length a = omega arith in
-    let j : k - 1 < length b = omega arith in
-    rw (drop-cons a (k - 1) 0 i, drop-cons b (k - 1) 0 j, s, e, q)
+    tails-cons a b (k - 1) (omega arith) (omega arith) (rw s e) q
+
+-- bytes below 256 are the digits of their number
+four-same : (x y z w x′ y′ z′ w′ : ℕ) → x < 256 → y < 256 → z < 256 → w < 256 → x′ < 256 → y′ < 256 → z′ < 256 → w′ < 256
+    → x + 256 * y + 65536 * z + 16777216 * w ≡ x′ + 256 * y′ + 65536 * z′ + 16777216 * w′ → (x ≡ x′) × (y ≡ y′) × (z ≡ z′) × (w ≡ w′)
+four-same x y z w x′ y′ z′ w′ a b c d a′ b′ c′ d′ e = (omega arith, omega arith, omega arith, omega arith)
+
+-- and the four bytes before each
+pub tails-four : (a b : List ℕ) (k : ℕ) → k + 4 ≤ length a → k + 4 ≤ length b → drop (k + 4) a ≡ drop (k + 4) b → FourBytes a k → FourBytes b k → fourOf a k ≡ fourOf b k → drop k a ≡ drop k b
+tails-four a b k h g e (x, y, z, w) (x′, y′, z′, w′) q =
+    let (p₀, p₁, p₂, p₃) = four-same _ _ _ _ _ _ _ _ x y z w x′ y′ z′ w′ q in
+    let s : suc (k + 3) ≡ k + 4 = omega arith in
+    let t : suc (k + 2) ≡ k + 3 = omega arith in
+    let u : suc (k + 1) ≡ k + 2 = omega arith in
+    let v : suc k ≡ k + 1 = omega arith in
+    let d₃ : drop (k + 3) a ≡ drop (k + 3) b = tails-cons a b (k + 3) (omega arith) (omega arith) (rw s e) p₃ in
+    let d₂ : drop (k + 2) a ≡ drop (k + 2) b = tails-cons a b (k + 2) (omega arith) (omega arith) (rw t d₃) p₂ in
+    let d₁ : drop (k + 1) a ≡ drop (k + 1) b = tails-cons a b (k + 1) (omega arith) (omega arith) (rw u d₂) p₁ in
+    tails-cons a b k (omega arith) (omega arith) (rw v d₁) p₀
 
 -- ---- an entry and a constant
 
@@ -56,6 +78,19 @@ module _ (pool chunk : List ℕ) (v : Val) where
   holds-truth false e q k w = holds-kind (truth false) e k w ∙ ap (eqb k) q
 
 -- ---- entries searched
+
+-- a value that isn't among four and isn't before them
+pub without-four : (ws : List ℕ) (i b : ℕ) → Without ws i b → inFour ws i b ≡ false → Without ws (i + 4) b
+without-four ws i b before none j l q =
+    let (n₀, r₀) = or-false (eqb (getD ws i 0) b) _ none in
+    let (n₁, r₁) = or-false (eqb (getD ws (i + 1) 0) b) _ r₀ in
+    let (n₂, n₃) = or-false (eqb (getD ws (i + 2) 0) b) _ r₁ in
+    let s : i + 1 + 1 ≡ i + 2 = omega arith in
+    let t : i + 2 + 1 ≡ i + 3 = omega arith in
+    let w₁ : Without ws (i + 1) b = below-more _ i before (eqb-false _ _ n₀) in
+    let w₂ : Without ws (i + 2) b = rw s at (below-more _ (i + 1) w₁ (eqb-false _ _ n₁)) in
+    let w₃ : Without ws (i + 3) b = rw t at (below-more _ (i + 2) w₂ (eqb-false _ _ n₂)) in
+    below-more (λ k. getD ws k 0 ≡ b → ⊥) (i + 3) w₃ (eqb-false _ _ n₃) j (omega arith) q
 
 -- no entry below i meets the test
 abbrev pub Passed : (ℕ → ℕ → Bool) → List ℕ → List ℕ → ℕ → Type 0
@@ -108,6 +143,10 @@ sets-end to from at i h = rw (drop-of-length-le from h)
 -- two lengths that both go to the end give the same part
 pub part-ends : (s : List ℕ) (start m n : ℕ) → length s - start ≤ m → length s - start ≤ n → take m (drop start s) ≡ take n (drop start s)
 part-ends s start m n h g = take-all m (drop start s) (rw length-drop h) ∙ sym (take-all n (drop start s) (rw length-drop g))
+
+-- a part that lies in the slice is as long as it is meant to be
+pub part-length : (s : List ℕ) (start len : ℕ) → start + len ≤ length s → length (take len (drop start s)) ≡ len
+part-length s start len h = length-take-le len (drop start s) (rw length-drop (omega arith))
 
 -- two starts at or behind the end give the empty part
 pub part-outside : (s : List ℕ) (i j m n : ℕ) → length s ≤ i → length s ≤ j → take m (drop i s) ≡ take n (drop j s)

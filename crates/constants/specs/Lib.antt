@@ -1,5 +1,6 @@
 pub mod Entry
 pub mod Table
+pub mod Fours
 pub mod Laws
 pub mod Distinct
 pub mod Rows

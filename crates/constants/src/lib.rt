@@ -7,7 +7,8 @@ ghost use lib.ListN.{length};
 ghost use lib.Seq.{sets};
 ghost use lib.Dec.{eqb, leb};
 ghost use Rattle.instructions.specs.Limits.{maxConstants};
-ghost use Rattle.constants.specs.Entry.{truth, part as partOf, sameBytes, holds};
+ghost use Rattle.constants.specs.Entry.{truth, number, constantOf, part as partOf, sameBytes, holds};
+ghost use Rattle.constants.specs.Fours.{fourOf, FourBytes, inFour, Without};
 ghost use Rattle.constants.specs.Laws.{kindOf};
 ghost use Rattle.constants.specs.Table.{find as findIn, stored, storedText, append as appended, added, out};
 use refusals::Refusal;
@@ -51,7 +52,25 @@ pub fn part(s: &[u8], start: usize, len: usize) -> &[u8]
     &s[start..end]
 }
 
-// From the end, where names made by counting differ.
+fn wide(b: u8) -> u32
+    ensures { λ r. ⌜ (r ≡ b) × (r < 256) ⌝ }
+{
+    b as u32
+}
+
+// Four bytes as one number, so that they are compared in one step.
+fn four(s: &[u8], at: usize) -> u32
+    requires { ⌜ at + 4 ≤ length (now s) ⌝ }
+    ensures { λ r. ⌜ (fourOf (now (s .entry)) at ≡ r) × FourBytes (now (s .entry)) at ⌝ }
+{
+    let a = wide(s[at]);
+    let b = wide(s[at + 1]);
+    let c = wide(s[at + 2]);
+    let d = wide(s[at + 3]);
+    a + 256 * b + 65536 * c + 16777216 * d
+}
+
+// From the end, where names made by counting differ, four bytes at a time and then the rest.
 pub fn same_bytes(a: &[u8], b: &[u8]) -> bool
     ensures { λ r. ⌜ sameBytes (now (a .entry)) (now (b .entry)) ≡ r ⌝ }
 {
@@ -59,6 +78,12 @@ pub fn same_bytes(a: &[u8], b: &[u8]) -> bool
         return false;
     }
     let mut k = a.len();
+    while 4 <= k {
+        k -= 4;
+        if four(a, k) != four(b, k) {
+            return false;
+        }
+    }
     while 0 < k {
         k -= 1;
         if a[k] != b[k] {
@@ -96,12 +121,44 @@ fn find_kind(kinds: &[u8], n: usize, kind: u8) -> Found
     Found::Nothing
 }
 
+// Whether one of four values is this.
+fn in_four(values: &[u64], at: usize, bits: u64) -> bool
+    requires { ⌜ at + 4 ≤ length (now values) ⌝ }
+    ensures { λ r. ⌜ inFour (now (values .entry)) at bits ≡ r ⌝ }
+{
+    if values[at] == bits {
+        return true;
+    }
+    if values[at + 1] == bits {
+        return true;
+    }
+    if values[at + 2] == bits {
+        return true;
+    }
+    values[at + 3] == bits
+}
+
+// Past as many fours of the first `n` values as don't have this one.
+fn past_fours(values: &[u64], n: usize, bits: u64) -> usize
+    requires { ⌜ n ≤ length (now values) ⌝ }
+    ensures { λ r. ⌜ Without (now (values .entry)) r bits ⌝ }
+{
+    let mut i = 0;
+    while 4 <= n - i {
+        if in_four(values, i, bits) {
+            return i;
+        }
+        i += 4;
+    }
+    i
+}
+
 // Of the first `n` entries the first number of these bits: 0.0 and -0.0 are two constants, and a NaN is itself.
 fn find_number(kinds: &[u8], values: &[u64], n: usize, bits: u64) -> Found
     requires { ⌜ (n ≤ length (now kinds)) × (n ≤ length (now values)) ⌝ }
     ensures { λ r. ⌜ findIn (λ k w. eqb w bits && eqb k 3) n (now (kinds .entry)) (now (values .entry)) ≡ r ⌝ }
 {
-    let mut i = 0;
+    let mut i = past_fours(values, n, bits);
     while i < n {
         if values[i] == bits {
             if kinds[i] == 3 {
@@ -119,7 +176,15 @@ fn is_text(value: u64, pool: &[u8], text: &[u8]) -> bool
 {
     let at = (value / 65536) as usize;
     let n = (value % 65536) as usize;
-    same_bytes(part(pool, at, n), text)
+    let end = at + n;
+    // no text of a table's own goes past the pool's end
+    if pool.len() < end {
+        return same_bytes(part(pool, at, n), text);
+    }
+    if n != text.len() {
+        return false;
+    }
+    same_bytes(&pool[at..end], text)
 }
 
 // Of the first `n` entries the first that is `text`.
@@ -151,6 +216,14 @@ pub fn find(kinds: &[u8], values: &[u64], pool: &[u8], chunk: &[u8], count: usiz
         Val::Number { value: _, bits } => find_number(kinds, values, n, bits),
         Val::Text { start, len } => find_text(kinds, values, pool, n, part(chunk, start, len)),
     }
+}
+
+// The same for a number alone: without a pool and a chunk `find` is asked at one place only, where the compiler takes it in.
+pub fn find_numeral(kinds: &[u8], values: &[u64], count: usize, bits: u64) -> Found
+    ensures { λ r. ⌜ ((pool chunk : List ℕ) (v : Val) → constantOf chunk v ≡ number bits → findIn (holds pool chunk v) count (now (kinds .entry)) (now (values .entry)) ≡ r) ⌝ }
+{
+    let n = least(count, least(kinds.len(), values.len()));
+    find_number(kinds, values, n, bits)
 }
 
 // Stores the bytes of `from` in `to` from `at` on.

@@ -3,7 +3,10 @@
 ghost use mathlib.Core.List.{List};
 ghost use mathlib.Core.Path.{_≡_};
 ghost use Prim.Native.Nat.{ℕ, _+_};
+ghost use lib.ListN.{length};
+ghost use Rattle.instructions.specs.Limits.{noReg};
 ghost use Rattle.model.specs.Steps.{Buffers, bufs, done, steppedIs, givenIs};
+ghost use Rattle.model.specs.Jumps.{patch-list-aux};
 ghost use Rattle.model.specs.Emission.{with-pc, with-free, with-frame, with-jpc, with-label, discharge-jpc, push as pushOf, emit-at, emit as emitOf, emit-abc, emit-abx, emit-jump, patch-to-here, get-label, code-label, adjoins as adjoinsOf, load-nil, emit-nil, check-stack, reserve-regs, alloc-reg, free-reg, with-table, keep as keepOf, add-constant};
 ghost use Rattle.emission.specs.Parts.{freed-to};
 use constants::Added;
@@ -23,10 +26,14 @@ use refusals::Refusal;
 
 // ---- the state with another field
 
+// The table is built anew, number by number: of one that is copied whole the machine would wait for both.
 pub fn with_pc(st: State, pc: usize) -> State
     ensures { λ r. ⌜ with-pc pc st ≡ r ⌝ }
 {
-    let table = st.table;
+    let table = Table {
+        count: st.table.count,
+        used: st.table.used,
+    };
     State {
         at: st.at,
         line: st.line,
@@ -43,7 +50,10 @@ pub fn with_pc(st: State, pc: usize) -> State
 pub fn with_free(st: State, free: usize) -> State
     ensures { λ r. ⌜ with-free free st ≡ r ⌝ }
 {
-    let table = st.table;
+    let table = Table {
+        count: st.table.count,
+        used: st.table.used,
+    };
     State {
         at: st.at,
         line: st.line,
@@ -60,7 +70,10 @@ pub fn with_free(st: State, free: usize) -> State
 fn with_frame(st: State, frame: usize) -> State
     ensures { λ r. ⌜ with-frame frame st ≡ r ⌝ }
 {
-    let table = st.table;
+    let table = Table {
+        count: st.table.count,
+        used: st.table.used,
+    };
     State {
         at: st.at,
         line: st.line,
@@ -77,7 +90,10 @@ fn with_frame(st: State, frame: usize) -> State
 fn with_jpc(st: State, jpc: usize) -> State
     ensures { λ r. ⌜ with-jpc jpc st ≡ r ⌝ }
 {
-    let table = st.table;
+    let table = Table {
+        count: st.table.count,
+        used: st.table.used,
+    };
     State {
         at: st.at,
         line: st.line,
@@ -94,7 +110,10 @@ fn with_jpc(st: State, jpc: usize) -> State
 fn with_label(st: State, label: usize) -> State
     ensures { λ r. ⌜ with-label label st ≡ r ⌝ }
 {
-    let table = st.table;
+    let table = Table {
+        count: st.table.count,
+        used: st.table.used,
+    };
     State {
         at: st.at,
         line: st.line,
@@ -126,11 +145,21 @@ fn with_table(st: State, table: Table) -> State
 
 // ---- words
 
+// The pending jumps lead to the word pc. Mostly there are none, and then no call is made.
+fn patch_pending(code: &mut [u32], jpc: usize, pc: usize)
+    ensures { λ _. ⌜ patch-list-aux (length (now (code .entry))) (now (code .entry)) jpc pc noReg pc ≡ now (code .exit) ⌝ }
+{
+    if jpc == 0 {
+        return;
+    }
+    patch_list_aux(code, jpc, pc, 255, pc);
+}
+
 // The pending jumps lead to the word to come.
 fn discharge_jpc(code: &mut [u32], st: State) -> State
     ensures { λ r. ⌜ ((ls ks vs p : List ℕ) → discharge-jpc st (bufs (now (code .entry)) ls ks vs p) ≡ done tt r (bufs (now (code .exit)) ls ks vs p)) ⌝ }
 {
-    patch_list_aux(code, st.jpc, st.pc, 255, st.pc);
+    patch_pending(code, st.jpc, st.pc);
     with_jpc(st, 0)
 }
 

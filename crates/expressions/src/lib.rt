@@ -18,6 +18,7 @@ use calls::leaf_expr;
 use calls::set_indexed;
 use calls::string_constant;
 use chunk::header::Header;
+use constants::Table;
 use discharge::discharge_vars;
 use discharge::exp2anyreg;
 use discharge::exp2nextreg;
@@ -157,7 +158,10 @@ fn after_second(
 fn with_place(st: State, at: usize, line: u32) -> State
     ensures { λ r. ⌜ with-place at line st ≡ r ⌝ }
 {
-    let table = st.table;
+    let table = Table {
+        count: st.table.count,
+        used: st.table.used,
+    };
     State {
         at,
         line,

@@ -19,8 +19,7 @@ use conditions::goiftrue;
 use conditions::is_relocable;
 use conditions::less_one;
 use constants::Found;
-use constants::Val;
-use constants::find;
+use constants::find_numeral;
 use discharge::discharge_vars;
 use discharge::exp2anyreg;
 use discharge::exp2nextreg;
@@ -255,18 +254,13 @@ fn is_far(found: Found, count: usize) -> bool
 }
 
 // A numeral that is listed above 255, or unlisted with 256 entries or more (difference 2).
-pub fn far_numeral(kinds: &[u8], values: &[u64], pool: &[u8], st: State, e: ExprContext) -> bool
-    ensures { λ r. ⌜ ((cs ls : List ℕ) → far-numeral e st (bufs cs ls (now (kinds .entry)) (now (values .entry)) (now (pool .entry))) ≡ done r st (bufs cs ls (now (kinds .exit)) (now (values .exit)) (now (pool .exit)))) ⌝ }
+pub fn far_numeral(kinds: &[u8], values: &[u64], st: State, e: ExprContext) -> bool
+    ensures { λ r. ⌜ ((cs ls p : List ℕ) → far-numeral e st (bufs cs ls (now (kinds .entry)) (now (values .entry)) p) ≡ done r st (bufs cs ls (now (kinds .exit)) (now (values .exit)) p)) ⌝ }
 {
     if is_numeral(e) {
-        let v = Val::Number {
-            value: e.number,
-            bits: e.bits,
-        };
-        let none = b"";
         let table = st.table;
         let count = table.count;
-        let found = find(kinds, values, pool, none, count, v);
+        let found = find_numeral(kinds, values, count, e.bits);
         return is_far(found, count);
     }
     false
@@ -379,7 +373,7 @@ pub fn code_comp(
 ) -> Described
     ensures { λ r. ⌜ code-comp op cond swapped e1 e2 st (bufs (now (code .entry)) (now (lines .entry)) (now (kinds .entry)) (now (values .entry)) (now (pool .entry))) ≡ describedIs r (bufs (now (code .exit)) (now (lines .exit)) (now (kinds .exit)) (now (values .exit)) (now (pool .exit))) ⌝ }
 {
-    let far = far_numeral(kinds, values, pool, st, e1);
+    let far = far_numeral(kinds, values, st, e1);
     let first = choose(far, e1, e2);
     let second = choose(far, e2, e1);
     let answer = exp2rk(code, lines, kinds, values, pool, st, first);

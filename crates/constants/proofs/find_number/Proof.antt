@@ -4,7 +4,7 @@ use mathlib.Core.Logic.{⊎-elim}
 use Prim.Native.Nat.{_-_}
 use native.Mathlib.Omega.{arith}
 use lib.Dec.{eqb}
-use borrow.Author.Count.{below-none, below-more}
+use borrow.Author.Count.{below-more}
 use borrow.Author.Tests.{eq-eqb, ne-eqb}
 use Rattle.constants.proofs.Steps.{Passed, found-first, found-nowhere}
 use Rattle.constants.proofs.find_number.Statement.{statement}
@@ -16,8 +16,11 @@ Inv-loop kinds values n bits i₀ i = Passed (λ k w. eqb w bits && eqb k 3) kin
 abbrev μ-loop : tie.MeasureT-loop
 μ-loop kinds values n bits i₀ i = n - i
 
+past-fours-requires : tie.Need-past-fours-requires Inv-loop μ-loop
+past-fours-requires c κs = omega arith
+
 loop-holds : tie.Need-loop-holds Inv-loop μ-loop
-loop-holds c = below-none _
+loop-holds c j l = rw (ne-eqb _ _ (c .past-fours .ensures j l))
 
 mul-if1 : tie.Need-mul-if1 Inv-loop μ-loop
 mul-if1 c = omega arith
@@ -55,6 +58,7 @@ find-number-spec =
     (tie.spec
     Inv-loop
     μ-loop
+    past-fours-requires
     loop-holds
     mul-if1
     shared-slice-read-if1

@@ -66,7 +66,7 @@ returns c =
     let p35 = p29 .before .before .before .before .before .before in
     let p36 = p35 .before in
     let p37 = p36 .before in
-    comp-done _ _ _ _ _ _ _ ((p37 .far-numeral .ensures) _ _) (p36 .choose .ensures) (p35 .choose2 .ensures) (described-told (p29 .exp2rk .result) _ (p29 .exp2rk .ensures) (p17 .answer .given .1)) ∙ (p10 .compare-with .ensures)
+    comp-done _ _ _ _ _ _ _ ((p37 .far-numeral .ensures) _ _ _) (p36 .choose .ensures) (p35 .choose2 .ensures) (described-told (p29 .exp2rk .result) _ (p29 .exp2rk .ensures) (p17 .answer .given .1)) ∙ (p10 .compare-with .ensures)
 
 same-length-6 : tie.Need-same-length-6
 same-length-6 c =
@@ -99,7 +99,7 @@ returns-2 c =
     let p19 = p13 .before .before .before .before .before .before in
     let p20 = p19 .before in
     let p21 = p20 .before in
-    comp-refused _ _ _ _ _ _ _ ((p21 .far-numeral .ensures) _ _) (p20 .choose .ensures) (p19 .choose2 .ensures) (described-told (p13 .exp2rk .result) _ (p13 .exp2rk .ensures) (c .before .answer2 .given .1))
+    comp-refused _ _ _ _ _ _ _ ((p21 .far-numeral .ensures) _ _ _) (p20 .choose .ensures) (p19 .choose2 .ensures) (described-told (p13 .exp2rk .result) _ (p13 .exp2rk .ensures) (c .before .answer2 .given .1))
 
 pub code-comp-spec : {M : Type 1} → statement M
 code-comp-spec =

@@ -1,5 +1,7 @@
--- `operators::far_numeral` meets its contract, by whether it is a numeral, and those of `find` and `is_far`. Assumes nothing.
-use mathlib.Core.Path.{_∙_}
+-- `operators::far_numeral` meets its contract, by whether it is a numeral, and those of `find_numeral` and `is_far`. Assumes nothing.
+use mathlib.Core.Path.{refl, _∙_}
+use mathlib.Core.List.{[]}
+use Rattle.constants.specs.declared.Val.the-variants.{Number}
 use Rattle.operators.specs.Laws.{far-is, far-not}
 use borrow.Author.Needs.{needs}
 use Rattle.operators.proofs.far_numeral.Statement.{statement}
@@ -8,24 +10,24 @@ use Rattle.operators.proofs.far_numeral.Tie as tie
 is-numeral-requires : tie.Need-is-numeral-requires
 is-numeral-requires c κs = search needs
 
-find-requires : tie.Need-find-requires
-find-requires c κs = search needs
+find-numeral-requires : tie.Need-find-numeral-requires
+find-numeral-requires c κs = search needs
 
 is-far-requires : tie.Need-is-far-requires
 is-far-requires c κs = search needs
 
 returns : tie.Need-returns
 returns c =
-    let p5 = c .before .before .before .before .before in
-    let p6 = p5 .before in
-    let p10 = p6 .before .before .before .before in
-    λ cs ls. far-is (p10 .args .e) (p10 .args .st) cs ls _ _ _ ((p6 .is-numeral .ensures) ∙ (p5 .if1 .taken)) (c .before .find .ensures) (c .is-far .ensures)
+    let p3 = c .before .before .before in
+    let p4 = p3 .before in
+    let a = p4 .before .before .before .args in
+    λ cs ls p. far-is (a .e) (a .st) cs ls _ _ p ((p4 .is-numeral .ensures) ∙ (p3 .if1 .taken)) ((c .before .find-numeral .ensures) p [] (Number (a .e .number) (a .e .bits)) refl) (c .is-far .ensures)
 
 returns-2 : tie.Need-returns-2
 returns-2 c =
-    let p5 = c .before .before .before .before .before in
-    λ cs ls. far-not (p5 .args .e) (p5 .args .st) cs ls _ _ _ ((c .before .is-numeral .ensures) ∙ (c .if1 .left))
+    let a = c .before .before .before .before .args in
+    λ cs ls p. far-not (a .e) (a .st) cs ls _ _ p ((c .before .is-numeral .ensures) ∙ (c .if1 .left))
 
 pub far-numeral-spec : {M : Type 1} → statement M
 far-numeral-spec =
-    tie.close (tie.spec is-numeral-requires find-requires is-far-requires returns returns-2)
+    tie.close (tie.spec is-numeral-requires find-numeral-requires is-far-requires returns returns-2)
