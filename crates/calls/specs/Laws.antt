@@ -24,7 +24,7 @@ use Rattle.model.specs.declared.ExprContext.{ExprContext}
 use Rattle.model.specs.declared.State.{State}
 use Rattle.model.specs.declared.Stepped.{Stepped}
 use Rattle.model.specs.Steps.{Buffers, bufs, Step, Result, done, refused, andThen, _>>=_, _>>_, get, steppedIs}
-use Rattle.model.specs.Descriptor.{newOf, is, isKind}
+use Rattle.model.specs.Descriptor.{newOf, with-kind, isKind}
 use Rattle.model.specs.Jumps.{word}
 use Rattle.model.specs.Emission.{with-free, emit-at, emit-abc, reserve-regs}
 use Rattle.model.specs.Discharge.{change-word, free-expr, exp2nextreg, exp2anyreg, exp2rk, rk}
@@ -78,11 +78,11 @@ module _ (r : ℕ) where
       go false = omega arith
 
 module _ (func : ExprContext) (b line : ℕ) (s : State) (m : Buffers) {w : ℕ} (i : abcOf op.Call (func .info) b 2 ≡ w) where
-  calling : emit-call func b line s m ≡ andThen (emit-at w line s m) (λ (pc : ℕ) (t : State) (k : Buffers). done (is Call pc func) (with-free (above (func .info)) t) k)
+  calling : emit-call func b line s m ≡ andThen (emit-at w line s m) (λ (pc : ℕ) (t : State) (k : Buffers). done (with-kind Call pc func) (with-free (above (func .info)) t) k)
   unfolding emit-call andThen
-  calling = ap (λ (x : ℕ). andThen (emit-at x line s m) (λ (pc : ℕ) (t : State) (k : Buffers). done (is Call pc func) (with-free (above (func .info)) t) k)) i
+  calling = ap (λ (x : ℕ). andThen (emit-at x line s m) (λ (pc : ℕ) (t : State) (k : Buffers). done (with-kind Call pc func) (with-free (above (func .info)) t) k)) i
 
-  pub call-done : {pc : ℕ} {t : State} {k : Buffers} → emit-at w line s m ≡ done pc t k → emit-call func b line s m ≡ done (is Call pc func) (with-free (above (func .info)) t) k
+  pub call-done : {pc : ℕ} {t : State} {k : Buffers} → emit-at w line s m ≡ done pc t k → emit-call func b line s m ≡ done (with-kind Call pc func) (with-free (above (func .info)) t) k
   call-done h = calling ∙ then-done _ h
 
   pub call-refused : {r : Refusal} {k : Buffers} → emit-at w line s m ≡ refused r k → emit-call func b line s m ≡ refused r k
@@ -146,10 +146,10 @@ module _ (t key : ExprContext) (s : State) (m : Buffers) where
 
 module _ (e : ExprContext) (reg : ℕ) (s : State) (m : Buffers) where
   module _ (k : ExprContext) {n : ℕ} (i : rk k ≡ n) where
-    calling-self : self-of e reg k s m ≡ andThen (emit-abc op.OpSelf reg (e .info) n s m) (λ _ (t : State) (o : Buffers). andThen (free-expr k t o) (λ _ (u : State) (a : Buffers). done (is NonReloc reg e) u a))
-    calling-self = ap (λ (x : ℕ). andThen (emit-abc op.OpSelf reg (e .info) x s m) (λ _ (t : State) (o : Buffers). andThen (free-expr k t o) (λ _ (u : State) (a : Buffers). done (is NonReloc reg e) u a))) i
+    calling-self : self-of e reg k s m ≡ andThen (emit-abc op.OpSelf reg (e .info) n s m) (λ _ (t : State) (o : Buffers). andThen (free-expr k t o) (λ _ (u : State) (a : Buffers). done (with-kind NonReloc reg e) u a))
+    calling-self = ap (λ (x : ℕ). andThen (emit-abc op.OpSelf reg (e .info) x s m) (λ _ (t : State) (o : Buffers). andThen (free-expr k t o) (λ _ (u : State) (a : Buffers). done (with-kind NonReloc reg e) u a))) i
 
-    pub self-done : {pc : ℕ} {t u : State} {o : Buffers} → emit-abc op.OpSelf reg (e .info) n s m ≡ done pc t o → free-expr k t o ≡ done tt u o → self-of e reg k s m ≡ done (is NonReloc reg e) u o
+    pub self-done : {pc : ℕ} {t u : State} {o : Buffers} → emit-abc op.OpSelf reg (e .info) n s m ≡ done pc t o → free-expr k t o ≡ done tt u o → self-of e reg k s m ≡ done (with-kind NonReloc reg e) u o
     self-done h q = calling-self ∙ then-done _ h ∙ then-done _ q
 
     pub self-refused : {r : Refusal} {o : Buffers} → emit-abc op.OpSelf reg (e .info) n s m ≡ refused r o → self-of e reg k s m ≡ refused r o

@@ -4,7 +4,7 @@ use Rattle.opcodes.specs.declared.OpCode.the-variants as op
 use Rattle.model.specs.declared.ExprKind.{ExprKind}
 use Rattle.model.specs.declared.ExprKind.the-variants.{NonReloc}
 use Rattle.model.specs.declared.ExprContext.{ExprContext}
-use Rattle.model.specs.Descriptor.{newOf, is}
+use Rattle.model.specs.Descriptor.{newOf, with-kind}
 use Rattle.model.specs.Steps.{Step, _>>=_, _>>_, return, get}
 use Rattle.model.specs.Emission.{emit-abc, reserve-regs}
 use Rattle.model.specs.Discharge.{free-expr, exp2rk, rk}
@@ -18,7 +18,7 @@ abbrev pub self-of : ExprContext → ℕ → ExprContext → Step ExprContext
 self-of e reg k = do
   emit-abc op.OpSelf reg (e .info) (rk k)
   free-expr k
-  return (is NonReloc reg e)
+  return (with-kind NonReloc reg e)
 
 abbrev pub operand-of : ExprContext → ℕ → ExprContext → Step ExprContext
 operand-of e reg key = do

@@ -15,7 +15,7 @@ use Rattle.model.specs.declared.ExprKind.the-variants.{Nil, True, False, K, KNu
 use Rattle.model.specs.declared.ExprContext.{ExprContext}
 use Rattle.model.specs.declared.State.{State}
 use Rattle.model.specs.Steps.{Buffers, bufs, Step, Result, done, refused, andThen}
-use Rattle.model.specs.Descriptor.{is, jumps, tagOf, isKind}
+use Rattle.model.specs.Descriptor.{with-kind, with-jumps, tagOf, isKind}
 use Rattle.model.specs.Jumps.{word, jump-list, get-jump-control, concat-jumps, linked, remove-values}
 use Rattle.model.specs.Emission.{with-pc, emit-abc, emit-jump, concat, patch-to-here}
 use Rattle.model.specs.Discharge.{discharge-vars, discharge2anyreg, free-expr}
@@ -45,7 +45,7 @@ module _ (s : State) (code ls ks vs p : List ℕ) where
   concat-is a b h i = simp (concat, h, i)
 
 module _ (o : OpCode) (b c : ℕ) (s : State) (m : Buffers) where
-  pub relocable-done : (e : ExprContext) {d : ExprContext} {n : ℕ} {t : State} {k : Buffers} → emit-abc o 0 b c s m ≡ done n t k → is Relocable n e ≡ d → relocable o b c e s m ≡ done d t k
+  pub relocable-done : (e : ExprContext) {d : ExprContext} {n : ℕ} {t : State} {k : Buffers} → emit-abc o 0 b c s m ≡ done n t k → with-kind Relocable n e ≡ d → relocable o b c e s m ≡ done d t k
   unfolding andThen
   relocable-done e h i = simp (h, i)
 
@@ -179,11 +179,11 @@ module _ (e : ExprContext) (s : State) (m : Buffers) where
 
   module _ {d : ExprContext} {t : State} {k : Buffers} (h : discharge-vars e s m ≡ done d t k) where
     module _ {list n : ℕ} {u v : State} {o q w : Buffers} {r : ExprContext} where
-      pub goes-true : jump-if-false (d .kind) d t k ≡ done list u o → concat (d .f) list u o ≡ done n u q → patch-to-here (d .t) u q ≡ done tt v w → jumps 0 n d ≡ r → goiftrue e s m ≡ done r v w
+      pub goes-true : jump-if-false (d .kind) d t k ≡ done list u o → concat (d .f) list u o ≡ done n u q → patch-to-here (d .t) u q ≡ done tt v w → with-jumps 0 n d ≡ r → goiftrue e s m ≡ done r v w
       unfolding goiftrue andThen
       goes-true i j l z = simp (goiftrue, h, i, j, l, z)
 
-      pub goes-false : jump-if-true (d .kind) d t k ≡ done list u o → concat (d .t) list u o ≡ done n u q → patch-to-here (d .f) u q ≡ done tt v w → jumps n 0 d ≡ r → goiffalse e s m ≡ done r v w
+      pub goes-false : jump-if-true (d .kind) d t k ≡ done list u o → concat (d .t) list u o ≡ done n u q → patch-to-here (d .f) u q ≡ done tt v w → with-jumps n 0 d ≡ r → goiffalse e s m ≡ done r v w
       unfolding goiffalse andThen
       goes-false i j l z = simp (goiffalse, h, i, j, l, z)
 
@@ -201,7 +201,7 @@ module _ (e : ExprContext) (s : State) (m : Buffers) where
       negate-refused i = simp (code-not, h, i)
 
     pub not-done : {n z : ExprContext} {u : State} {code ls ks vs p one two : List ℕ} → negate (d .kind) d t k ≡ done n u (bufs code ls ks vs p) →
-        remove-values (length code) code (n .t) ≡ one → remove-values (length one) one (n .f) ≡ two → jumps (n .f) (n .t) n ≡ z → code-not e s m ≡ done z u (bufs two ls ks vs p)
+        remove-values (length code) code (n .t) ≡ one → remove-values (length one) one (n .f) ≡ two → with-jumps (n .f) (n .t) n ≡ z → code-not e s m ≡ done z u (bufs two ls ks vs p)
     unfolding code-not andThen
     not-done i j l y = simp (code-not, h, i, j, l, y)
 
@@ -236,7 +236,7 @@ module _ (e : ExprContext) (s : State) (m : Buffers) where
   unfolding negate andThen
   negate-inverts h i = at-kind (λ (x : ExprKind). negate x e s m) Jmp e h (simp (negate, i))
 
-pub negate-false : (k : ExprKind) (e : ExprContext) (s : State) (m : Buffers) → always-false k ≡ true → negate k e s m ≡ done (is True (e .info) e) s m
+pub negate-false : (k : ExprKind) (e : ExprContext) (s : State) (m : Buffers) → always-false k ≡ true → negate k e s m ≡ done (with-kind True (e .info) e) s m
 unfolding negate
 negate-false Nil e s m h = refl
 negate-false True e s m h = cc
@@ -252,7 +252,7 @@ negate-false NonReloc e s m h = cc
 negate-false Call e s m h = cc
 negate-false VarArg e s m h = cc
 
-pub negate-true : (k : ExprKind) (e : ExprContext) (s : State) (m : Buffers) → always-true k ≡ true → negate k e s m ≡ done (is False (e .info) e) s m
+pub negate-true : (k : ExprKind) (e : ExprContext) (s : State) (m : Buffers) → always-true k ≡ true → negate k e s m ≡ done (with-kind False (e .info) e) s m
 unfolding negate
 negate-true Nil e s m h = cc
 negate-true True e s m h = refl

@@ -5,7 +5,7 @@ use Rattle.opcodes.specs.declared.OpCode.{OpCode}
 use Rattle.model.specs.declared.ExprKind.{ExprKind}
 use Rattle.model.specs.declared.ExprKind.the-variants.{Nil, True, False, K, KNum, Local, Global, Indexed, Jmp, Relocable, NonReloc, Call, VarArg}
 use Rattle.model.specs.declared.ExprContext.{ExprContext}
-use Rattle.model.specs.Descriptor.{is}
+use Rattle.model.specs.Descriptor.{with-kind}
 use Rattle.model.specs.Steps.{Step, _>>=_, _>>_, return}
 use Rattle.model.specs.Emission.{emit-abc, emit-jump}
 use Rattle.model.specs.Discharge.{free-expr}
@@ -14,7 +14,7 @@ use Rattle.model.specs.Discharge.{free-expr}
 abbrev pub relocable : OpCode → ℕ → ℕ → ExprContext → Step ExprContext
 relocable o b c e = do
   pc ← emit-abc o 0 b c
-  return (is Relocable pc e)
+  return (with-kind Relocable pc e)
 
 -- the word of a unary operator, whose operand's register is free again
 abbrev pub unary : OpCode → ExprContext → Step ExprContext

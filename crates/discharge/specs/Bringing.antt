@@ -10,7 +10,7 @@ use Rattle.model.specs.declared.ExprKind.the-variants as kind
 use Rattle.model.specs.declared.ExprContext.{ExprContext}
 use Rattle.model.specs.declared.State.{State}
 use Rattle.model.specs.Steps.{Buffers, Step, Result, done, refused, andThen, skip}
-use Rattle.model.specs.Descriptor.{is, jumps, has-jumps, isKind}
+use Rattle.model.specs.Descriptor.{with-kind, with-jumps, has-jumps, isKind}
 use Rattle.model.specs.Emission.{emit-abc, emit-abx, alloc-reg, free-reg}
 use Rattle.model.specs.Discharge.{discharge-kind, discharge-vars, free-expr, load-kind, discharge2reg, settle, join-jump, exp2reg, exp2nextreg, exp2anyreg, exp2val, rk-kind, exp2rk}
 use Rattle.emission.specs.Laws.{branch}
@@ -51,7 +51,7 @@ Valued e (done d s m) = (is-value d ≡ true) × (has-jumps d ≡ has-jumps e)
 Valued e (refused k m) = Unit {0}
 
 module _ (e : ExprContext) where
-  relocable : (x : Result ℕ) → Valued e (andThen x (λ (pc : ℕ) (s : State) (m : Buffers). done (is kind.Relocable pc e) s m))
+  relocable : (x : Result ℕ) → Valued e (andThen x (λ (pc : ℕ) (s : State) (m : Buffers). done (with-kind kind.Relocable pc e) s m))
   unfolding andThen Valued
   relocable (done pc s m) = (refl, refl)
   relocable (refused k m) = tt
@@ -152,7 +152,7 @@ bound (refused k m) f h = refl
 module _ (reg : ℕ) where
   landed : (d : ExprContext) (s : State) (m : Buffers) → as-rk (placed d reg s m) ≡ placed d reg s m
   unfolding andThen rk-kind exp2anyreg discharge-kind
-  landed d s m = bound (join-jump d s m) _ (λ x a b. bound (branch (has-jumps x) (settle x reg) skip a b) (give (is kind.NonReloc reg (jumps 0 0 x))) (λ _ c o. refl))
+  landed d s m = bound (join-jump d s m) _ (λ x a b. bound (branch (has-jumps x) (settle x reg) skip a b) (give (with-kind kind.NonReloc reg (with-jumps 0 0 x))) (λ _ c o. refl))
 
   reg-landed : (e : ExprContext) (s : State) (m : Buffers) → as-rk (exp2reg e reg s m) ≡ exp2reg e reg s m
   unfolding exp2reg

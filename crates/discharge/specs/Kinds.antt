@@ -11,14 +11,14 @@ use Rattle.instructions.specs.Word.{setAOf}
 use Rattle.model.specs.declared.ExprKind.{ExprKind}
 use Rattle.model.specs.declared.ExprKind.the-variants.{Nil, True, False, K, KNum, Local, Global, Indexed, Jmp, Relocable, NonReloc, Call, VarArg}
 use Rattle.model.specs.declared.ExprContext.{ExprContext}
-use Rattle.model.specs.Descriptor.{tagOf, isKind, is, jumps, has-jumps}
+use Rattle.model.specs.Descriptor.{tagOf, isKind, with-kind, with-jumps, has-jumps}
 use Rattle.model.specs.Steps.{Step, _>>=_, _>>_, return, get, when}
 use Rattle.model.specs.Emission.{alloc-reg, emit-jump, code-label, patch-to-here, get-label}
 use Rattle.model.specs.Discharge.{land, settle, join-jump, free-expr, exp2reg, exp2nextreg}
 
 -- the descriptor in a register, whatever number is given
 abbrev pub put : ExprContext → ℕ → ℕ → Step ExprContext
-put e reg n = return (is NonReloc reg e)
+put e reg n = return (with-kind NonReloc reg e)
 
 -- a descriptor, whatever is given
 abbrev pub give : ExprContext → Unit {0} → Step ExprContext
@@ -45,7 +45,7 @@ abbrev pub placed : ExprContext → ℕ → Step ExprContext
 placed e reg = do
   d ← join-jump e
   when (has-jumps d) (settle d reg)
-  return (is NonReloc reg (jumps 0 0 d))
+  return (with-kind NonReloc reg (with-jumps 0 0 d))
 
 -- the parts of `exp2nextreg` and of `exp2anyreg` behind `discharge-vars`
 abbrev pub next-of : ExprContext → Step ExprContext
@@ -67,7 +67,7 @@ any-of e = do
 
 -- the descriptor as the constant that is given
 abbrev pub constant-of : ExprContext → ℕ → Step ExprContext
-constant-of e k = return (is K k e)
+constant-of e k = return (with-kind K k e)
 
 -- the kind of a number
 unfoldable kindOf : ℕ → ExprKind

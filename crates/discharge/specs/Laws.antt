@@ -18,7 +18,7 @@ use Rattle.model.specs.declared.State.{State}
 use Rattle.model.specs.declared.Given.{Given}
 use Rattle.model.specs.declared.Described.{Described}
 use Rattle.model.specs.Steps.{Buffers, bufs, Step, Result, done, refused, andThen, skip, givenIs, describedIs}
-use Rattle.model.specs.Descriptor.{is, jumps, has-jumps, isKind}
+use Rattle.model.specs.Descriptor.{with-kind, with-jumps, has-jumps, isKind}
 use Rattle.model.specs.Jumps.{word, concat-jumps, linked, jump-list, need-value, patch-list-aux}
 use Rattle.model.specs.Emission.{concat, emit-jump, code-label, patch-to-here, get-label, emit-abc, emit-abx, emit-nil, alloc-reg, free-reg, add-constant}
 use Rattle.model.specs.Discharge.{discharge-kind, discharge-vars, free-expr, number-constant, load-kind, move, discharge2reg, discharge2anyreg, land, load-both, settle, join-jump, exp2reg, exp2nextreg, exp2anyreg, exp2val, small, near, rk-kind, exp2rk}
@@ -35,7 +35,7 @@ described-told g m q e = q ∙ ap (λ (o : Described). describedIs o m) e
 -- ---- variables
 
 module _ (e : ExprContext) (s : State) (m : Buffers) where
-  pub global-done : {pc : ℕ} {t : State} {k : Buffers} → emit-abx op.GetGlobal 0 (e .info) s m ≡ done pc t k → discharge-kind Global e s m ≡ done (is Relocable pc e) t k
+  pub global-done : {pc : ℕ} {t : State} {k : Buffers} → emit-abx op.GetGlobal 0 (e .info) s m ≡ done pc t k → discharge-kind Global e s m ≡ done (with-kind Relocable pc e) t k
   unfolding discharge-kind andThen
   global-done h = simp (discharge-kind, h)
 
@@ -44,7 +44,7 @@ module _ (e : ExprContext) (s : State) (m : Buffers) where
   global-refused h = simp (discharge-kind, h)
 
   module _ {a b : State} (ha : free-reg (e .aux) s m ≡ done tt a m) (hb : free-reg (e .info) a m ≡ done tt b m) where
-    pub indexed-done : {pc : ℕ} {t : State} {k : Buffers} → emit-abc op.GetTable 0 (e .info) (e .aux) b m ≡ done pc t k → discharge-kind Indexed e s m ≡ done (is Relocable pc e) t k
+    pub indexed-done : {pc : ℕ} {t : State} {k : Buffers} → emit-abc op.GetTable 0 (e .info) (e .aux) b m ≡ done pc t k → discharge-kind Indexed e s m ≡ done (with-kind Relocable pc e) t k
     unfolding discharge-kind andThen
     indexed-done h = simp (discharge-kind, ha, hb, h)
 
@@ -54,12 +54,12 @@ module _ (e : ExprContext) (s : State) (m : Buffers) where
 
 module _ (e : ExprContext) (s : State) (code ls ks vs p : List ℕ) where
   pub call-is : {after : List ℕ} → set code (e .info) (setCOf (word code (e .info)) 2) ≡ after →
-      discharge-kind Call e s (bufs code ls ks vs p) ≡ done (is NonReloc (aOf (word after (e .info))) e) s (bufs after ls ks vs p)
+      discharge-kind Call e s (bufs code ls ks vs p) ≡ done (with-kind NonReloc (aOf (word after (e .info))) e) s (bufs after ls ks vs p)
   unfolding discharge-kind andThen
   call-is h = simp (discharge-kind, h)
 
   pub vararg-is : {after : List ℕ} → set code (e .info) (setBOf (word code (e .info)) 2) ≡ after →
-      discharge-kind VarArg e s (bufs code ls ks vs p) ≡ done (is Relocable (e .info) e) s (bufs after ls ks vs p)
+      discharge-kind VarArg e s (bufs code ls ks vs p) ≡ done (with-kind Relocable (e .info) e) s (bufs after ls ks vs p)
   unfolding discharge-kind andThen
   vararg-is h = simp (discharge-kind, h)
 
@@ -67,7 +67,7 @@ module _ (e : ExprContext) (s : State) (code ls ks vs p : List ℕ) where
 pub of-kind : (k : ExprKind) (e : ExprContext) (s : State) (m : Buffers) {r : Result ExprContext} → isKind k e ≡ true → discharge-kind k e s m ≡ r → discharge-kind (e .kind) e s m ≡ r
 of-kind k e s m h q = ap (λ (x : ExprKind). discharge-kind x e s m) (kind-is k e h) ∙ q
 
-pub local-is : (e : ExprContext) (s : State) (m : Buffers) → discharge-kind Local e s m ≡ done (is NonReloc (e .info) e) s m
+pub local-is : (e : ExprContext) (s : State) (m : Buffers) → discharge-kind Local e s m ≡ done (with-kind NonReloc (e .info) e) s m
 unfolding discharge-kind
 local-is e s m = refl
 
@@ -96,7 +96,7 @@ pub load-of : (k : ExprKind) (e : ExprContext) (reg : ℕ) (s : State) (m : Buff
 load-of k e reg s m h q = ap (λ (x : ExprKind). load-kind x e reg s m) (kind-is k e h) ∙ q
 
 module _ (e : ExprContext) (reg : ℕ) (s : State) (m : Buffers) where
-  pub nil-loaded : {t : State} {k : Buffers} → emit-nil reg s m ≡ done tt t k → load-kind Nil e reg s m ≡ done (is NonReloc reg e) t k
+  pub nil-loaded : {t : State} {k : Buffers} → emit-nil reg s m ≡ done tt t k → load-kind Nil e reg s m ≡ done (with-kind NonReloc reg e) t k
   unfolding load-kind andThen
   nil-loaded h = simp (load-kind, h)
 
@@ -138,7 +138,7 @@ module _ (e : ExprContext) (reg : ℕ) (s : State) (m : Buffers) where
   unfolding load-kind andThen
   number-refused h = simp (load-kind, h)
 
-  pub unmoved : reg ≡ e .info → load-kind NonReloc e reg s m ≡ done (is NonReloc reg e) s m
+  pub unmoved : reg ≡ e .info → load-kind NonReloc e reg s m ≡ done (with-kind NonReloc reg e) s m
   unfolding load-kind andThen
   unmoved h = ap (λ (b : Bool). andThen (branch (not b) (move reg (e .info)) skip s m) (λ _. put e reg 0)) (eq-eqb reg (e .info) h)
 
@@ -151,7 +151,7 @@ module _ (e : ExprContext) (reg : ℕ) (s : State) (m : Buffers) where
   to-reg-refused h = simp (discharge2reg, h)
 
 pub relocated : (e : ExprContext) (reg : ℕ) (s : State) (code ls ks vs p : List ℕ) {after : List ℕ} → set code (e .info) (setAOf (word code (e .info)) reg) ≡ after →
-    load-kind Relocable e reg s (bufs code ls ks vs p) ≡ done (is NonReloc reg e) s (bufs after ls ks vs p)
+    load-kind Relocable e reg s (bufs code ls ks vs p) ≡ done (with-kind NonReloc reg e) s (bufs after ls ks vs p)
 unfolding load-kind andThen
 relocated e reg s code ls ks vs p h = simp (load-kind, h)
 
@@ -209,12 +209,12 @@ module _ (e : ExprContext) (s : State) (m : Buffers) where
 
   pub not-joined : isKind Jmp e ≡ false → join-jump e s m ≡ done e s m
   unfolding join-jump
-  not-joined h = ap (λ (b : Bool). branch b (λ (a : State) (k : Buffers). andThen (concat (e .t) (jump-list (e .info)) a k) (λ (t : ℕ) (a₁ : State) (k₁ : Buffers). done (jumps t (e .f) e) a₁ k₁)) (λ (a : State) (k : Buffers). done e a k) s m) h
+  not-joined h = ap (λ (b : Bool). branch b (λ (a : State) (k : Buffers). andThen (concat (e .t) (jump-list (e .info)) a k) (λ (t : ℕ) (a₁ : State) (k₁ : Buffers). done (with-jumps t (e .f) e) a₁ k₁)) (λ (a : State) (k : Buffers). done e a k) s m) h
 
 pub joined : (e : ExprContext) (s : State) (code ls ks vs p : List ℕ) → isKind Jmp e ≡ true →
-    join-jump e s (bufs code ls ks vs p) ≡ done (jumps (concat-jumps (e .t) (jump-list (e .info))) (e .f) e) s (bufs (linked code (e .t) (jump-list (e .info))) ls ks vs p)
+    join-jump e s (bufs code ls ks vs p) ≡ done (with-jumps (concat-jumps (e .t) (jump-list (e .info))) (e .f) e) s (bufs (linked code (e .t) (jump-list (e .info))) ls ks vs p)
 unfolding join-jump concat andThen
-joined e s code ls ks vs p h = ap (λ (b : Bool). branch b (λ (a : State) (k : Buffers). andThen (concat (e .t) (jump-list (e .info)) a k) (λ (t : ℕ) (a₁ : State) (k₁ : Buffers). done (jumps t (e .f) e) a₁ k₁)) (λ (a : State) (k : Buffers). done e a k) s (bufs code ls ks vs p)) h
+joined e s code ls ks vs p h = ap (λ (b : Bool). branch b (λ (a : State) (k : Buffers). andThen (concat (e .t) (jump-list (e .info)) a k) (λ (t : ℕ) (a₁ : State) (k₁ : Buffers). done (with-jumps t (e .f) e) a₁ k₁)) (λ (a : State) (k : Buffers). done e a k) s (bufs code ls ks vs p)) h
 
 module _ (e : ExprContext) (reg over : ℕ) (s : State) (m : Buffers) where
   pub yes-done : (off : ℕ) {on : ℕ} {t u v : State} {k l o : Buffers} → code-label reg 1 0 s m ≡ done on t k → patch-to-here over t k ≡ done tt u l → get-label u l ≡ done (u .pc) v l →
@@ -271,21 +271,21 @@ module _ (e : ExprContext) (reg : ℕ) (s : State) (m : Buffers) where
 
   module _ {d : ExprContext} {k : Buffers} (j : join-jump e s m ≡ done d s k) where
     abbrev rest : ExprContext → Step ExprContext
-    rest x a o = andThen (branch (has-jumps x) (settle x reg) skip a o) (give (is NonReloc reg (jumps 0 0 x)))
+    rest x a o = andThen (branch (has-jumps x) (settle x reg) skip a o) (give (with-kind NonReloc reg (with-jumps 0 0 x)))
 
     placed-is : placed e reg s m ≡ rest d s k
     unfolding andThen
     placed-is = ap (λ (y : Result ExprContext). andThen y rest) j
 
-    module _ {bare there : ExprContext} (w : jumps 0 0 d ≡ bare) (v : is NonReloc reg bare ≡ there) where
-      there-is : is NonReloc reg (jumps 0 0 d) ≡ there
-      there-is = ap (λ (x : ExprContext). is NonReloc reg x) w ∙ v
+    module _ {bare there : ExprContext} (w : with-jumps 0 0 d ≡ bare) (v : with-kind NonReloc reg bare ≡ there) where
+      there-is : with-kind NonReloc reg (with-jumps 0 0 d) ≡ there
+      there-is = ap (λ (x : ExprContext). with-kind NonReloc reg x) w ∙ v
 
       pub placed-settled : {x : Result (Unit {0})} {r : Result ExprContext} → has-jumps d ≡ true → settle d reg s k ≡ x → andThen x (give there) ≡ r → placed e reg s m ≡ r
       placed-settled {x} h q z =
           placed-is
-          ∙ ap (λ (b : Bool). andThen (branch b (settle d reg) skip s k) (give (is NonReloc reg (jumps 0 0 d)))) h
-          ∙ ap (λ (y : Result (Unit {0})). andThen y (give (is NonReloc reg (jumps 0 0 d)))) q
+          ∙ ap (λ (b : Bool). andThen (branch b (settle d reg) skip s k) (give (with-kind NonReloc reg (with-jumps 0 0 d)))) h
+          ∙ ap (λ (y : Result (Unit {0})). andThen y (give (with-kind NonReloc reg (with-jumps 0 0 d)))) q
           ∙ ap (λ (y : ExprContext). andThen x (give y)) there-is
           ∙ z
 
@@ -293,7 +293,7 @@ module _ (e : ExprContext) (reg : ℕ) (s : State) (m : Buffers) where
       unfolding andThen
       placed-bare h =
           placed-is
-          ∙ ap (λ (b : Bool). andThen (branch b (settle d reg) skip s k) (give (is NonReloc reg (jumps 0 0 d)))) h
+          ∙ ap (λ (b : Bool). andThen (branch b (settle d reg) skip s k) (give (with-kind NonReloc reg (with-jumps 0 0 d)))) h
           ∙ ap (λ (y : ExprContext). done y s k) there-is
 
   pub reg-refused : {r : Refusal} {k : Buffers} → discharge2reg e reg s m ≡ refused r k → exp2reg e reg s m ≡ refused r k
@@ -376,7 +376,7 @@ module _ (e : ExprContext) (s : State) (m : Buffers) where
       unfolding small andThen
       fits-is = ap (λ (b : Bool). branch b fitting (exp2anyreg e) s m) l
 
-      pub small-done : {k : ℕ} {t : State} {n : Buffers} → constant s m ≡ done k t n → small e constant s m ≡ done (is K k e) t n
+      pub small-done : {k : ℕ} {t : State} {n : Buffers} → constant s m ≡ done k t n → small e constant s m ≡ done (with-kind K k e) t n
       unfolding andThen
       small-done h = fits-is ∙ ap (λ (y : Result ℕ). andThen y (constant-of e)) h
 
@@ -388,7 +388,7 @@ module _ (e : ExprContext) (s : State) (m : Buffers) where
     unfolding small andThen
     small-not l = ap (λ (b : Bool). branch b fitting (exp2anyreg e) s m) l
 
-  pub near-fits : (k : ℕ) → leb k maxIndexRk ≡ true → near e k s m ≡ done (is K k e) s m
+  pub near-fits : (k : ℕ) → leb k maxIndexRk ≡ true → near e k s m ≡ done (with-kind K k e) s m
   unfolding near
   near-fits k l = ap (λ (b : Bool). branch b (constant-of e k) (exp2anyreg e) s m) l
 

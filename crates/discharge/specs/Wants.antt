@@ -6,7 +6,7 @@ use Rattle.model.specs.declared.ExprKind.the-variants as kind
 use Rattle.model.specs.declared.ExprContext.{ExprContext}
 use Rattle.model.specs.declared.State.{State}
 use Rattle.model.specs.Steps.{Buffers, Result, done, refused, Step, andThen, return}
-use Rattle.model.specs.Descriptor.{is, has-jumps}
+use Rattle.model.specs.Descriptor.{with-kind, has-jumps}
 use Rattle.model.specs.Discharge.{discharge-vars, load-kind, discharge2reg, exp2reg, exp2nextreg, exp2anyreg, exp2val, exp2rk}
 use Rattle.discharge.specs.declared.Want.{Want}
 use Rattle.discharge.specs.declared.Want.the-variants.{Value, Load, Reg, Next, Any, Val, Rk}
@@ -108,7 +108,7 @@ there-of w e reg s m = andThen (load-kind (e .kind) e reg s m) (landing-of w reg
 
 -- what the answers of the parts stand for
 abbrev pub restIs : Want → ExprContext → Operand → Buffers → Result ExprContext
-restIs w e (operand.Constant s k) m = done (is kind.K k e) s m
+restIs w e (operand.Constant s k) m = done (with-kind kind.K k e) s m
 restIs w e (operand.Other s) m = reg-of w e s m
 restIs w e (operand.Refused k) m = refused k m
 

@@ -9,7 +9,7 @@ ghost use Rattle.instructions.specs.Word.{setAOf, setBOf, setCOf};
 ghost use Rattle.model.specs.declared.ExprKind.the-variants.{Nil, KNum, Global, Indexed, NonReloc, Call, VarArg};
 ghost use Rattle.model.specs.declared.State.{State};
 ghost use Rattle.model.specs.Steps.{Buffers, bufs, done, andThen, steppedIs, givenIs, describedIs};
-ghost use Rattle.model.specs.Descriptor.{isKind, is, jumps, has-jumps};
+ghost use Rattle.model.specs.Descriptor.{isKind, with-kind, with-jumps, has-jumps};
 ghost use Rattle.model.specs.Jumps.{word};
 ghost use Rattle.model.specs.Emission.{add-constant};
 ghost use Rattle.model.specs.Discharge.{discharge-kind, discharge-vars, number-constant, load-kind, discharge2reg as discharge2regOf, discharge2anyreg as discharge2anyregOf, land as landOf, load-both, settle as settleOf, join-jump, exp2reg as exp2regOf, exp2nextreg as exp2nextregOf, exp2anyreg as exp2anyregOf, exp2val as exp2valOf, small as smallOf, near as nearOf, rk-kind, exp2rk as exp2rkOf};
@@ -50,7 +50,7 @@ use refusals::Refusal;
 
 // The descriptor with another kind and info.
 pub fn with_kind(e: ExprContext, kind: ExprKind, info: usize) -> ExprContext
-    ensures { λ r. ⌜ is kind info e ≡ r ⌝ }
+    ensures { λ r. ⌜ with-kind kind info e ≡ r ⌝ }
 {
     ExprContext {
         kind,
@@ -65,7 +65,7 @@ pub fn with_kind(e: ExprContext, kind: ExprKind, info: usize) -> ExprContext
 
 // The descriptor with other jump lists.
 pub fn with_jumps(e: ExprContext, t: usize, f: usize) -> ExprContext
-    ensures { λ r. ⌜ jumps t f e ≡ r ⌝ }
+    ensures { λ r. ⌜ with-jumps t f e ≡ r ⌝ }
 {
     let kind = e.kind;
     ExprContext {

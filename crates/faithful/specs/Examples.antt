@@ -37,7 +37,7 @@ use Rattle.chunk.specs.Form.{formed}
 use Rattle.model.specs.declared.Counts.{Counts}
 use Rattle.model.specs.declared.Lowered.the-variants as answer
 use Rattle.model.specs.Lowering.{Sizes}
-use Rattle.model.specs.Rows.{nils}
+use Rattle.model.specs.Rows.{nils, p5-chunk as p5}
 use Rattle.model.specs.Values.{Value, truth, World}
 use Rattle.model.specs.Reading.{reading, read-leaf, read-one, read-binary, read-two, read-expr, read-formulas}
 use Rattle.model.specs.Running.{returned, run}
@@ -74,9 +74,6 @@ runs : (z : Sizes) (chunk : List ℕ) → Bytes chunk → (w : World) (locals va
 runs z chunk b w locals varargs h = faithful z chunk b (h .tree) (h .form) (h .counts) (h .answers) w locals varargs (h .named)
 
 -- P5: ((1 or false) and true) or false
-abbrev p5 : List ℕ
-p5 = 0 ∷ 1 ∷ 7 ∷ 8 ∷ 14 ∷ 7 ∷ 8 ∷ 13 ∷ 7 ∷ 8 ∷ 14 ∷ 3 ∷ 2 ∷ 0 ∷ 0 ∷ 0 ∷ 0 ∷ 0 ∷ 0 ∷ 240 ∷ 63 ∷ 2 ∷ 0 ∷ 1 ∷ 0 ∷ 2 ∷ 0 ∷ []
-
 abbrev for-p5 : Sizes
 for-p5 = record { code = 10; lines = 10; kinds = 1; values = 1; pool = 0; scratch = 7 }
 

@@ -12,6 +12,7 @@ use Rattle.ast.specs.Operators.{binOpOf, unOpOf}
 use Rattle.chunk.specs.Form.{exprsAt, rest, exprAt, ended, formOf, Formed, formed, refused}
 use Rattle.chunk.specs.Headers.{namesAt, formulasAt, headerAt}
 use Rattle.model.specs.Expressions.{search-local}
+use Rattle.model.specs.Rows.{p5-chunk}
 use Rattle.model.specs.Values.{truth, number}
 use Rattle.labelled.specs.Code.{same as same-number, reg, con, val, glob, ari, cat, cva, cct, always, test, to, setw, lbs, mark, nilw, callw, Instr, pl, br, Code, size, edit}
 use Rattle.labelled.specs.Table.{place, include, roomy, isNear}
@@ -42,7 +43,7 @@ examples : programs (
     -- P1: 1 + x
     (0 ∷ 1 ∷ 7 ∷ 8 ∷ 0 ∷ 3 ∷ 2 ∷ 0 ∷ 0 ∷ 0 ∷ 0 ∷ 0 ∷ 0 ∷ 240 ∷ 63 ∷ 6 ∷ 4 ∷ 1 ∷ 0 ∷ 120 ∷ []) ∷
     -- P5: ((1 or false) and true) or false: nine words, and the Return behind
-    (0 ∷ 1 ∷ 7 ∷ 8 ∷ 14 ∷ 7 ∷ 8 ∷ 13 ∷ 7 ∷ 8 ∷ 14 ∷ 3 ∷ 2 ∷ 0 ∷ 0 ∷ 0 ∷ 0 ∷ 0 ∷ 0 ∷ 240 ∷ 63 ∷ 2 ∷ 0 ∷ 1 ∷ 0 ∷ 2 ∷ 0 ∷ []) ∷
+    p5-chunk ∷
     -- P10: a .. b .. c
     (0 ∷ 1 ∷ 7 ∷ 8 ∷ 6 ∷ 6 ∷ 4 ∷ 1 ∷ 0 ∷ 97 ∷ 7 ∷ 8 ∷ 6 ∷ 6 ∷ 4 ∷ 1 ∷ 0 ∷ 98 ∷ 6 ∷ 4 ∷ 1 ∷ 0 ∷ 99 ∷ []) ∷
     -- f(a, g(...))

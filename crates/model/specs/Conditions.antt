@@ -11,8 +11,8 @@ use Rattle.model.specs.declared.ExprKind.{ExprKind}
 use Rattle.model.specs.declared.ExprKind.the-variants.{Nil, True, False, K, KNum, Local, Global, Indexed, Jmp, Relocable, NonReloc, Call, VarArg}
 use Rattle.model.specs.declared.ExprContext.{ExprContext}
 use Rattle.model.specs.declared.State.{State}
-use Rattle.model.specs.Descriptor.{is, jumps, isKind}
-use Rattle.model.specs.Steps.{Buffers, done, Step, _>>=_, _>>_, return, words, change-words}
+use Rattle.model.specs.Descriptor.{with-kind, with-jumps, isKind}
+use Rattle.model.specs.Steps.{Buffers, done, Step, _>>=_, _>>_, return, code-now, change-words}
 use Rattle.model.specs.Jumps.{word, isOp, jump-list, get-jump-control, remove-values}
 use Rattle.model.specs.Emission.{with-pc, emit-abc, emit-jump, concat, patch-to-here}
 use Rattle.model.specs.Discharge.{change-word, discharge-vars, free-expr, discharge2anyreg}
@@ -29,7 +29,7 @@ pop s m = done tt (with-pc (s .pc - 1) s) (record { code = set (m .code) (s .pc 
 -- `invertjump`: the comparison before the jump tests for the other answer
 unfoldable pub invertjump : ExprContext → Step (Unit {0})
 invertjump e = do
-  code ← words
+  code ← code-now
   change-word (get-jump-control code (e .info)) (λ w. setAOf w (bit (eqb (aOf w) 0)))
 
 -- a `Not` that is still to get its register, and so the last word
@@ -39,7 +39,7 @@ is-not code e = isKind Relocable e && isOp op.Not (word code (e .info))
 -- `jumponcond`: the list of the jump that is taken where the value's truth is cond. (The register that the Rust leaves in the descriptor is read by nobody.)
 unfoldable pub jumponcond : ExprContext → Bool → Step ℕ
 jumponcond e cond = do
-  code ← words
+  code ← code-now
   elim (is-not code e) [
     | true ↦ do
       pop
@@ -93,7 +93,7 @@ goiftrue e = do
   list ← jump-if-false (e₁ .kind) e₁
   f ← concat (e₁ .f) list
   patch-to-here (e₁ .t)
-  return (jumps 0 f e₁)
+  return (with-jumps 0 f e₁)
 
 -- `goiffalse`
 unfoldable pub goiffalse : ExprContext → Step ExprContext
@@ -102,22 +102,22 @@ goiffalse e = do
   list ← jump-if-true (e₁ .kind) e₁
   t ← concat (e₁ .t) list
   patch-to-here (e₁ .f)
-  return (jumps t 0 e₁)
+  return (with-jumps t 0 e₁)
 
 unfoldable pub emit-not : ExprContext → Step ExprContext
 emit-not e = do
   e₁ ← discharge2anyreg e
   free-expr e₁
   pc ← emit-abc op.Not 0 (e₁ .info) 0
-  return (is Relocable pc e₁)
+  return (with-kind Relocable pc e₁)
 
 -- the negated value of a kind
 unfoldable pub negate : ExprKind → ExprContext → Step ExprContext
-negate Nil e = return (is True (e .info) e)
-negate True e = return (is False (e .info) e)
-negate False e = return (is True (e .info) e)
-negate K e = return (is False (e .info) e)
-negate KNum e = return (is False (e .info) e)
+negate Nil e = return (with-kind True (e .info) e)
+negate True e = return (with-kind False (e .info) e)
+negate False e = return (with-kind True (e .info) e)
+negate K e = return (with-kind False (e .info) e)
+negate KNum e = return (with-kind False (e .info) e)
 negate Local e = return e
 negate Global e = return e
 negate Indexed e = return e
@@ -136,4 +136,4 @@ code-not e = do
   e₂ ← negate (e₁ .kind) e₁
   change-words (λ code. remove-values (length code) code (e₂ .t))
   change-words (λ code. remove-values (length code) code (e₂ .f))
-  return (jumps (e₂ .f) (e₂ .t) e₂)
+  return (with-jumps (e₂ .f) (e₂ .t) e₂)

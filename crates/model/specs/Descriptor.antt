@@ -13,16 +13,16 @@ abbrev pub newOf : ExprKind → ℕ → ExprContext
 newOf k i = record { kind = k; info = i; aux = 0; number = ofBits binary64 0; bits = 0; t = 0; f = 0 }
 
 -- `ExprContext::number`
-abbrev pub numberOf : Numeral → ExprContext
-numberOf n = record { kind = KNum; info = 0; aux = 0; number = n .value; bits = n .bits; t = 0; f = 0 }
+abbrev pub descriptorOf : Numeral → ExprContext
+descriptorOf n = record { kind = KNum; info = 0; aux = 0; number = n .value; bits = n .bits; t = 0; f = 0 }
 
 -- the descriptor with another kind and info
-abbrev pub is : ExprKind → ℕ → ExprContext → ExprContext
-is k i e = record { kind = k; info = i; aux = e .aux; number = e .number; bits = e .bits; t = e .t; f = e .f }
+abbrev pub with-kind : ExprKind → ℕ → ExprContext → ExprContext
+with-kind k i e = record { kind = k; info = i; aux = e .aux; number = e .number; bits = e .bits; t = e .t; f = e .f }
 
 -- the descriptor with other jump lists
-abbrev pub jumps : ℕ → ℕ → ExprContext → ExprContext
-jumps t f e = record { kind = e .kind; info = e .info; aux = e .aux; number = e .number; bits = e .bits; t = t; f = f }
+abbrev pub with-jumps : ℕ → ℕ → ExprContext → ExprContext
+with-jumps t f e = record { kind = e .kind; info = e .info; aux = e .aux; number = e .number; bits = e .bits; t = t; f = f }
 
 -- `has_jumps`
 abbrev pub has-jumps : ExprContext → Bool

@@ -12,8 +12,8 @@ use Rattle.model.specs.declared.ExprKind.{ExprKind}
 use Rattle.model.specs.declared.ExprKind.the-variants.{Nil, True, False, K, KNum, Local, Global, Indexed, Jmp, Relocable, NonReloc, Call, VarArg}
 use Rattle.model.specs.declared.ExprContext.{ExprContext}
 use Rattle.model.specs.declared.State.{State}
-use Rattle.model.specs.Descriptor.{is, jumps, has-jumps, isKind}
-use Rattle.model.specs.Steps.{Step, _>>=_, _>>_, return, get, words, change-words, skip, when}
+use Rattle.model.specs.Descriptor.{with-kind, with-jumps, has-jumps, isKind}
+use Rattle.model.specs.Steps.{Step, _>>=_, _>>_, return, get, code-now, change-words, skip, when}
 use Rattle.model.specs.Jumps.{word, jump-list, need-value, patch-list-aux}
 use Rattle.model.specs.Emission.{emit-abc, emit-abx, emit-jump, emit-nil, concat, patch-to-here, get-label, code-label, alloc-reg, free-reg, add-constant}
 
@@ -28,25 +28,25 @@ discharge-kind True e = return e
 discharge-kind False e = return e
 discharge-kind K e = return e
 discharge-kind KNum e = return e
-discharge-kind Local e = return (is NonReloc (e .info) e)
+discharge-kind Local e = return (with-kind NonReloc (e .info) e)
 discharge-kind Global e = do
   pc ← emit-abx op.GetGlobal 0 (e .info)
-  return (is Relocable pc e)
+  return (with-kind Relocable pc e)
 discharge-kind Indexed e = do
   free-reg (e .aux)
   free-reg (e .info)
   pc ← emit-abc op.GetTable 0 (e .info) (e .aux)
-  return (is Relocable pc e)
+  return (with-kind Relocable pc e)
 discharge-kind Jmp e = return e
 discharge-kind Relocable e = return e
 discharge-kind NonReloc e = return e
 discharge-kind Call e = do
   change-word (e .info) (λ w. setCOf w 2)
-  code ← words
-  return (is NonReloc (aOf (word code (e .info))) e)
+  code ← code-now
+  return (with-kind NonReloc (aOf (word code (e .info))) e)
 discharge-kind VarArg e = do
   change-word (e .info) (λ w. setBOf w 2)
-  return (is Relocable (e .info) e)
+  return (with-kind Relocable (e .info) e)
 
 abbrev pub discharge-vars : ExprContext → Step ExprContext
 discharge-vars e = discharge-kind (e .kind) e
@@ -68,30 +68,30 @@ move to from = do
 unfoldable pub load-kind : ExprKind → ExprContext → ℕ → Step ExprContext
 load-kind Nil e reg = do
   emit-nil reg
-  return (is NonReloc reg e)
+  return (with-kind NonReloc reg e)
 load-kind True e reg = do
   emit-abc op.LoadBool reg 1 0
-  return (is NonReloc reg e)
+  return (with-kind NonReloc reg e)
 load-kind False e reg = do
   emit-abc op.LoadBool reg 0 0
-  return (is NonReloc reg e)
+  return (with-kind NonReloc reg e)
 load-kind K e reg = do
   emit-abx op.LoadK reg (e .info)
-  return (is NonReloc reg e)
+  return (with-kind NonReloc reg e)
 load-kind KNum e reg = do
   n ← number-constant e
   emit-abx op.LoadK reg n
-  return (is NonReloc reg e)
+  return (with-kind NonReloc reg e)
 load-kind Local e reg = return e
 load-kind Global e reg = return e
 load-kind Indexed e reg = return e
 load-kind Jmp e reg = return e
 load-kind Relocable e reg = do
   change-word (e .info) (λ w. setAOf w reg)
-  return (is NonReloc reg e)
+  return (with-kind NonReloc reg e)
 load-kind NonReloc e reg = do
   when (not (eqb reg (e .info))) (move reg (e .info))
-  return (is NonReloc reg e)
+  return (with-kind NonReloc reg e)
 load-kind Call e reg = return e
 load-kind VarArg e reg = return e
 
@@ -128,7 +128,7 @@ load-both e reg = do
 
 unfoldable pub settle : ExprContext → ℕ → Step (Unit {0})
 settle e reg = do
-  code ← words
+  code ← code-now
   elim (need-value (length code) code (e .t) || need-value (length code) code (e .f)) [
     | true ↦ load-both e reg
     | false ↦ do
@@ -142,7 +142,7 @@ join-jump e =
     elim (isKind Jmp e) [
       | true ↦ do
         t ← concat (e .t) (jump-list (e .info))
-        return (jumps t (e .f) e)
+        return (with-jumps t (e .f) e)
       | false ↦ return e
     ]
 
@@ -152,7 +152,7 @@ exp2reg e reg = do
   e₁ ← discharge2reg e reg
   e₂ ← join-jump e₁
   when (has-jumps e₂) (settle e₂ reg)
-  return (is NonReloc reg (jumps 0 0 e₂))
+  return (with-kind NonReloc reg (with-jumps 0 0 e₂))
 
 -- `exp2nextreg`
 unfoldable pub exp2nextreg : ExprContext → Step ExprContext
@@ -186,13 +186,13 @@ small e constant = do
   elim (leb (s .table .count) maxIndexRk) [
     | true ↦ do
       k ← constant
-      return (is K k e)
+      return (with-kind K k e)
     | false ↦ exp2anyreg e
   ]
 
 -- a constant above 255 goes to a register
 unfoldable pub near : ExprContext → ℕ → Step ExprContext
-near e k = elim (leb k maxIndexRk) [ true ↦ return (is K k e) | false ↦ exp2anyreg e ]
+near e k = elim (leb k maxIndexRk) [ true ↦ return (with-kind K k e) | false ↦ exp2anyreg e ]
 
 unfoldable pub rk-kind : ExprKind → ExprContext → Step ExprContext
 rk-kind Nil e = small e (add-constant [] val.Nil)

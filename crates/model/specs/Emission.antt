@@ -16,7 +16,7 @@ use Rattle.constants.specs.declared.Val.{Val}
 use Rattle.constants.specs.declared.Added.{Added}
 use Rattle.constants.specs.declared.Added.the-variants as added
 use Rattle.model.specs.declared.State.{State}
-use Rattle.model.specs.Steps.{Buffers, Result, done, refused, Step, andThen, _>>=_, _>>_, return, refuse, get, change, words, change-words, skip}
+use Rattle.model.specs.Steps.{Buffers, Result, done, refused, Step, andThen, _>>=_, _>>_, return, refuse, get, change, code-now, change-words, skip}
 use Rattle.model.specs.Jumps.{word, isOp, concat-jumps, linked, remove-values, patch-list-aux}
 
 -- ---- the state with other fields
@@ -129,7 +129,7 @@ load-nil r = do
 unfoldable pub emit-nil : ℕ → Step (Unit {0})
 emit-nil from = do
   s ← get
-  code ← words
+  code ← code-now
   elim (leb (s .label) (s .pc)) [
     | true ↦ elim (eqb (s .pc) 0) [
       | true ↦ skip

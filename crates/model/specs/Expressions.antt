@@ -32,7 +32,7 @@ use Rattle.chunk.specs.declared.header.Header.{Header}
 use Rattle.model.specs.declared.ExprKind.the-variants.{Nil, True, False, K, Local, Global, Indexed, NonReloc, Call, VarArg}
 use Rattle.model.specs.declared.ExprContext.{ExprContext}
 use Rattle.model.specs.declared.State.{State}
-use Rattle.model.specs.Descriptor.{newOf, numberOf, is, isKind}
+use Rattle.model.specs.Descriptor.{newOf, descriptorOf, with-kind, isKind}
 use Rattle.model.specs.Values.{later, named}
 use Rattle.model.specs.Steps.{Step, _>>=_, _>>_, return, refuse, get, change}
 use Rattle.model.specs.Emission.{with-place, with-free, emit-at, emit-abc, reserve-regs, add-constant}
@@ -68,7 +68,7 @@ unfoldable pub emit-call : ExprContext → ℕ → ℕ → Step ExprContext
 emit-call func b line = do
   pc ← emit-at (abcOf op.Call (func .info) b 2) line
   change (with-free (above (func .info)))
-  return (is Call pc func)
+  return (with-kind Call pc func)
 
 -- the call of as many arguments as there are registers above the function's
 unfoldable pub closed-call : ExprContext → ℕ → Step ExprContext
@@ -118,7 +118,7 @@ code-self e key = do
   k ← exp2rk key
   emit-abc op.OpSelf (s .free) (e₁ .info) (rk k)
   free-expr k
-  return (is NonReloc (s .free) e₁)
+  return (with-kind NonReloc (s .free) e₁)
 
 -- ---- nodes
 
@@ -141,7 +141,7 @@ module _ (chunk : List ℕ) (h : Header) where
   leaf-expr leaf.Nil = return (newOf Nil 0)
   leaf-expr leaf.True = return (newOf True 0)
   leaf-expr leaf.False = return (newOf False 0)
-  leaf-expr (leaf.Number b) = return (numberOf (numeralOf b))
+  leaf-expr (leaf.Number b) = return (descriptorOf (numeralOf b))
   leaf-expr (leaf.Str t) = do
     k ← string-constant t
     return (newOf K k)

@@ -25,8 +25,8 @@ use Rattle.ast.specs.declared.UnOp.the-variants as un
 use Rattle.model.specs.declared.ExprKind.the-variants.{KNum, Jmp, Relocable}
 use Rattle.model.specs.declared.ExprContext.{ExprContext}
 use Rattle.model.specs.declared.State.{State}
-use Rattle.model.specs.Descriptor.{newOf, is, jumps, isKind, is-numeral}
-use Rattle.model.specs.Steps.{Buffers, done, Step, _>>=_, _>>_, return, words}
+use Rattle.model.specs.Descriptor.{newOf, with-kind, with-jumps, isKind, is-numeral}
+use Rattle.model.specs.Steps.{Buffers, done, Step, _>>=_, _>>_, return, code-now}
 use Rattle.model.specs.Jumps.{word, isOp}
 use Rattle.model.specs.Emission.{emit-abc, emit-jump, concat}
 use Rattle.model.specs.Discharge.{change-word, discharge-vars, free-expr, exp2nextreg, exp2anyreg, exp2val, exp2rk, rk}
@@ -71,7 +71,7 @@ emit-arith o e₁ e₂ = do
   b ← exp2rk e₁
   free-both b c
   pc ← emit-abc (arithOp o) 0 (rk b) (rk c)
-  return (is Relocable pc b)
+  return (with-kind Relocable pc b)
 
 -- `code_arith` for + - * / % ^
 unfoldable pub code-arith : Arith → ExprContext → ExprContext → Step ExprContext
@@ -83,7 +83,7 @@ code-unary o e = do
   e₁ ← exp2anyreg e
   free-expr e₁
   pc ← emit-abc o 0 (e₁ .info) 0
-  return (is Relocable pc e₁)
+  return (with-kind Relocable pc e₁)
 
 -- `code_arith` for Concat, whose operands are registers one above the other
 unfoldable pub code-concat : ExprContext → ExprContext → Step ExprContext
@@ -93,7 +93,7 @@ code-concat e₁ e₂ = do
   free-expr c
   free-expr b
   pc ← emit-abc op.Concat 0 (b .info) (c .info)
-  return (is Relocable pc b)
+  return (with-kind Relocable pc b)
 
 -- ---- comparisons
 
@@ -129,7 +129,7 @@ emit-comp o cond swapped b c = do
   free-both b c
   emit-abc o (bit cond) (either swapped (rk b) (rk c)) (either swapped (rk c) (rk b))
   list ← emit-jump
-  return (jumps 0 0 (is Jmp (list - 1) b))
+  return (with-jumps 0 0 (with-kind Jmp (list - 1) b))
 
 -- `code_comp`: the operator, the answer for which the jump is taken, and whether the operands change places
 unfoldable pub code-comp : OpCode → Bool → Bool → ExprContext → ExprContext → Step ExprContext
@@ -166,24 +166,24 @@ unfoldable pub code-and : ExprContext → ExprContext → Step ExprContext
 code-and e₁ e₂ = do
   e₃ ← discharge-vars e₂
   f ← concat (e₃ .f) (e₁ .f)
-  return (jumps (e₃ .t) f e₃)
+  return (with-jumps (e₃ .t) f e₃)
 
 unfoldable pub code-or : ExprContext → ExprContext → Step ExprContext
 code-or e₁ e₂ = do
   e₃ ← discharge-vars e₂
   t ← concat (e₃ .t) (e₁ .t)
-  return (jumps t (e₃ .f) e₃)
+  return (with-jumps t (e₃ .f) e₃)
 
 -- a concatenation on the right is lengthened to the left
 unfoldable pub join-concat : ExprContext → ExprContext → Step ExprContext
 join-concat e₁ e₂ = do
   e₃ ← exp2val e₂
-  code ← words
+  code ← code-now
   elim (isKind Relocable e₃ && isOp op.Concat (word code (e₃ .info))) [
     | true ↦ do
       free-expr e₁
       change-word (e₃ .info) (λ w. setBOf w (e₁ .info))
-      return (is Relocable (e₃ .info) e₁)
+      return (with-kind Relocable (e₃ .info) e₁)
     | false ↦ do
       e₄ ← exp2nextreg e₃
       code-concat e₁ e₄

@@ -66,6 +66,10 @@ unfoldable pub nils : ℕ → List ℕ → List ℕ
 nils zero more = more
 nils (suc n) more = 0 ∷ 0 ∷ nils n more
 
+-- the bytes of P5, which other examples are about too
+abbrev pub p5-chunk : List ℕ
+p5-chunk = 0 ∷ 1 ∷ 7 ∷ 8 ∷ 14 ∷ 7 ∷ 8 ∷ 13 ∷ 7 ∷ 8 ∷ 14 ∷ 3 ∷ 2 ∷ 0 ∷ 0 ∷ 0 ∷ 0 ∷ 0 ∷ 0 ∷ 240 ∷ 63 ∷ 2 ∷ 0 ∷ 1 ∷ 0 ∷ 2 ∷ 0 ∷ []
+
 -- P1 to P12
 unfoldable pub rows : List Row
 unfolding nils
@@ -79,7 +83,7 @@ rows =
     -- P4: 251 nils
     record { chunk = (0 ∷ 251 ∷ nils 251 []); answer = refusal 10 } ∷
     -- P5: ((1 or false) and true) or false: ten words
-    record { chunk = (0 ∷ 1 ∷ 7 ∷ 8 ∷ 14 ∷ 7 ∷ 8 ∷ 13 ∷ 7 ∷ 8 ∷ 14 ∷ 3 ∷ 2 ∷ 0 ∷ 0 ∷ 0 ∷ 0 ∷ 0 ∷ 0 ∷ 240 ∷ 63 ∷ 2 ∷ 0 ∷ 1 ∷ 0 ∷ 2 ∷ 0 ∷ []); answer = words (1 ∷ 16410 ∷ 2147549206 ∷ 2147483670 ∷ 2147516438 ∷ 2 ∷ 2147500054 ∷ 16386 ∷ 8388610 ∷ 16777246 ∷ []) (1 ∷ 1 ∷ 1 ∷ 1 ∷ 1 ∷ 1 ∷ 1 ∷ 1 ∷ 1 ∷ 1 ∷ []) (3 ∷ []) (4607182418800017408 ∷ []) 0 2 } ∷
+    record { chunk = p5-chunk; answer = words (1 ∷ 16410 ∷ 2147549206 ∷ 2147483670 ∷ 2147516438 ∷ 2 ∷ 2147500054 ∷ 16386 ∷ 8388610 ∷ 16777246 ∷ []) (1 ∷ 1 ∷ 1 ∷ 1 ∷ 1 ∷ 1 ∷ 1 ∷ 1 ∷ 1 ∷ 1 ∷ []) (3 ∷ []) (4607182418800017408 ∷ []) 0 2 } ∷
     -- P6: 1 / 0: Div 0 257 256
     record { chunk = (0 ∷ 1 ∷ 7 ∷ 8 ∷ 3 ∷ 3 ∷ 2 ∷ 0 ∷ 0 ∷ 0 ∷ 0 ∷ 0 ∷ 0 ∷ 240 ∷ 63 ∷ 3 ∷ 2 ∷ 0 ∷ 0 ∷ 0 ∷ 0 ∷ 0 ∷ 0 ∷ 0 ∷ 0 ∷ []); answer = words (2160066575 ∷ 16777246 ∷ []) (1 ∷ 1 ∷ []) (3 ∷ 3 ∷ []) (0 ∷ 4607182418800017408 ∷ []) 0 2 } ∷
     -- P7: 7 % -3 folds to -2

@@ -106,8 +106,8 @@ module _ (w : World) (p : Program) (varargs : List Value) where
   abbrev pub constant : ℕ → (Value → After) → After
   constant i f = require (ltb i (p .constants)) (listed (entryOf (p .pool) (getD (p .kinds) i 0) (getD (p .values) i 0)) f)
 
-  abbrev pub rk : Machine → ℕ → (Value → After) → After
-  rk m x f = elim (ltb x bitRk) [ true ↦ reg m x f | false ↦ constant (x - bitRk) f ]
+  abbrev pub rk-value : Machine → ℕ → (Value → After) → After
+  rk-value m x f = elim (ltb x bitRk) [ true ↦ reg m x f | false ↦ constant (x - bitRk) f ]
 
   -- values into registers from a on
   abbrev pub put : Machine → ℕ → Value → (Machine → After) → After
@@ -172,21 +172,21 @@ module _ (w : World) (p : Program) (varargs : List Value) where
   -- GETGLOBAL: R(A) := Gbl[Kst(Bx)]; the constant is the name
   carry op.GetGlobal x m = constant (bxOf x) λ k. name-of k λ n. asked m (aOf x) global-read (n ∷ [])
   -- GETTABLE: R(A) := R(B)[RK(C)]
-  carry op.GetTable x m = reg m (bOf x) λ o. rk m (cOf x) λ k. asked m (aOf x) index-read (o ∷ k ∷ [])
+  carry op.GetTable x m = reg m (bOf x) λ o. rk-value m (cOf x) λ k. asked m (aOf x) index-read (o ∷ k ∷ [])
   -- SELF: R(A+1) := R(B); R(A) := R(B)[RK(C)]
-  carry op.OpSelf x m = reg m (bOf x) λ o. put m ((aOf x) + 1) o λ n. rk n (cOf x) λ k. asked n (aOf x) index-read (o ∷ k ∷ [])
+  carry op.OpSelf x m = reg m (bOf x) λ o. put m ((aOf x) + 1) o λ n. rk-value n (cOf x) λ k. asked n (aOf x) index-read (o ∷ k ∷ [])
   -- ADD: R(A) := RK(B) + RK(C)
-  carry op.Add x m = rk m (bOf x) λ a. rk m (cOf x) λ b. computed m (aOf x) (compute w arith.Add a b (m .steps))
+  carry op.Add x m = rk-value m (bOf x) λ a. rk-value m (cOf x) λ b. computed m (aOf x) (compute w arith.Add a b (m .steps))
   -- SUB: R(A) := RK(B) - RK(C)
-  carry op.Sub x m = rk m (bOf x) λ a. rk m (cOf x) λ b. computed m (aOf x) (compute w arith.Sub a b (m .steps))
+  carry op.Sub x m = rk-value m (bOf x) λ a. rk-value m (cOf x) λ b. computed m (aOf x) (compute w arith.Sub a b (m .steps))
   -- MUL: R(A) := RK(B) * RK(C)
-  carry op.Mul x m = rk m (bOf x) λ a. rk m (cOf x) λ b. computed m (aOf x) (compute w arith.Mul a b (m .steps))
+  carry op.Mul x m = rk-value m (bOf x) λ a. rk-value m (cOf x) λ b. computed m (aOf x) (compute w arith.Mul a b (m .steps))
   -- DIV: R(A) := RK(B) / RK(C)
-  carry op.Div x m = rk m (bOf x) λ a. rk m (cOf x) λ b. computed m (aOf x) (compute w arith.Div a b (m .steps))
+  carry op.Div x m = rk-value m (bOf x) λ a. rk-value m (cOf x) λ b. computed m (aOf x) (compute w arith.Div a b (m .steps))
   -- MOD: R(A) := RK(B) % RK(C)
-  carry op.Mod x m = rk m (bOf x) λ a. rk m (cOf x) λ b. computed m (aOf x) (compute w arith.Mod a b (m .steps))
+  carry op.Mod x m = rk-value m (bOf x) λ a. rk-value m (cOf x) λ b. computed m (aOf x) (compute w arith.Mod a b (m .steps))
   -- POW: R(A) := RK(B) ^ RK(C)
-  carry op.Pow x m = rk m (bOf x) λ a. rk m (cOf x) λ b. computed m (aOf x) (compute w arith.Pow a b (m .steps))
+  carry op.Pow x m = rk-value m (bOf x) λ a. rk-value m (cOf x) λ b. computed m (aOf x) (compute w arith.Pow a b (m .steps))
   -- UNM: R(A) := -R(B)
   carry op.Unm x m = reg m (bOf x) λ v. computed m (aOf x) (negation w v (m .steps))
   -- NOT: R(A) := not R(B)
@@ -198,11 +198,11 @@ module _ (w : World) (p : Program) (varargs : List Value) where
   -- JMP: pc += sBx
   carry op.Jmp x m = jump m (sbxOf x)
   -- EQ: if ((RK(B) == RK(C)) ~= A) then pc++
-  carry op.Eq x m = rk m (bOf x) λ a. rk m (cOf x) λ b. compared m (flag (aOf x)) (ask-truth w equal (a ∷ b ∷ []) (m .steps))
+  carry op.Eq x m = rk-value m (bOf x) λ a. rk-value m (cOf x) λ b. compared m (flag (aOf x)) (ask-truth w equal (a ∷ b ∷ []) (m .steps))
   -- LT: if ((RK(B) < RK(C)) ~= A) then pc++
-  carry op.Lt x m = rk m (bOf x) λ a. rk m (cOf x) λ b. compared m (flag (aOf x)) (ask-truth w less (a ∷ b ∷ []) (m .steps))
+  carry op.Lt x m = rk-value m (bOf x) λ a. rk-value m (cOf x) λ b. compared m (flag (aOf x)) (ask-truth w less (a ∷ b ∷ []) (m .steps))
   -- LE: if ((RK(B) <= RK(C)) ~= A) then pc++
-  carry op.Le x m = rk m (bOf x) λ a. rk m (cOf x) λ b. compared m (flag (aOf x)) (ask-truth w less-or-equal (a ∷ b ∷ []) (m .steps))
+  carry op.Le x m = rk-value m (bOf x) λ a. rk-value m (cOf x) λ b. compared m (flag (aOf x)) (ask-truth w less-or-equal (a ∷ b ∷ []) (m .steps))
   -- TEST: if not (R(A) <=> C) then pc++
   carry op.Test x m = reg m (aOf x) λ v. skip-if (not (same (is-true v) (flag (cOf x)))) m
   -- TESTSET: if (R(B) <=> C) then R(A) := R(B) else pc++

@@ -56,8 +56,8 @@ abbrev pub change : (State → State) → Step (Unit {0})
 change f s m = done tt (f s) m
 
 -- the words, and a change of them
-abbrev pub words : Step (List ℕ)
-words s m = done (m .code) s m
+abbrev pub code-now : Step (List ℕ)
+code-now s m = done (m .code) s m
 
 abbrev pub change-words : (List ℕ → List ℕ) → Step (Unit {0})
 change-words f s m = done tt s (record { code = f (m .code); lines = m .lines; kinds = m .kinds; values = m .values; pool = m .pool })

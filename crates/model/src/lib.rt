@@ -1,6 +1,6 @@
 // The types that the lowering and its definitions share: the compiler's state, the expression descriptor, and the answers of the lowering's steps (rilua's codegen.rs).
 ghost use mathlib.Core.Path.{_≡_};
-ghost use Rattle.model.specs.Descriptor.{newOf, numberOf};
+ghost use Rattle.model.specs.Descriptor.{newOf, descriptorOf};
 use constants::Table;
 use folding::Numeral;
 use refusals::Refusal;
@@ -59,7 +59,7 @@ impl ExprContext {
     }
 
     pub fn number(n: Numeral) -> ExprContext
-        ensures { λ r. ⌜ numberOf n ≡ r ⌝ }
+        ensures { λ r. ⌜ descriptorOf n ≡ r ⌝ }
     {
         ExprContext {
             kind: ExprKind::KNum,

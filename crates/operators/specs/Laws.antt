@@ -25,7 +25,7 @@ use Rattle.model.specs.declared.ExprKind.the-variants.{KNum, Relocable}
 use Rattle.model.specs.declared.ExprContext.{ExprContext}
 use Rattle.model.specs.declared.State.{State}
 use Rattle.model.specs.Steps.{Buffers, bufs, Step, Result, done, refused, andThen}
-use Rattle.model.specs.Descriptor.{newOf, is, jumps, isKind, is-numeral}
+use Rattle.model.specs.Descriptor.{newOf, with-kind, with-jumps, isKind, is-numeral}
 use Rattle.model.specs.Jumps.{word, isOp}
 use Rattle.model.specs.Emission.{emit-abc, emit-jump, concat}
 use Rattle.model.specs.Discharge.{discharge-vars, free-expr, exp2nextreg, exp2anyreg, exp2val, exp2rk, rk}
@@ -273,11 +273,11 @@ after-is o e₁ e₂ s m q = go o ∙ ap (λ (f : Form). after f e₁ e₂ s m) 
 
 module _ (e₁ e₂ : ExprContext) (s : State) (m : Buffers) where
   module _ {d : ExprContext} {t : State} {k : Buffers} (h : discharge-vars e₂ s m ≡ done d t k) {n : ℕ} {o : Buffers} {z : ExprContext} where
-    pub and-done : concat (d .f) (e₁ .f) t k ≡ done n t o → jumps (d .t) n d ≡ z → code-and e₁ e₂ s m ≡ done z t o
+    pub and-done : concat (d .f) (e₁ .f) t k ≡ done n t o → with-jumps (d .t) n d ≡ z → code-and e₁ e₂ s m ≡ done z t o
     unfolding code-and andThen
     and-done i q = simp (code-and, h, i, q)
 
-    pub or-done : concat (d .t) (e₁ .t) t k ≡ done n t o → jumps n (d .f) d ≡ z → code-or e₁ e₂ s m ≡ done z t o
+    pub or-done : concat (d .t) (e₁ .t) t k ≡ done n t o → with-jumps n (d .f) d ≡ z → code-or e₁ e₂ s m ≡ done z t o
     unfolding code-or andThen
     or-done i q = simp (code-or, h, i, q)
 
@@ -306,7 +306,7 @@ module _ (e₁ e₂ : ExprContext) (s : State) (code ls ks vs p : List ℕ) wher
   lengthened a k =
       andThen
       (free-expr e₁ a k)
-      (λ _ (b : State) (o : Buffers). done (is Relocable (e₂ .info) e₁) b (bufs (set (o .code) (e₂ .info) (setBOf (word (o .code) (e₂ .info)) (e₁ .info))) (o .lines) (o .kinds) (o .values) (o .pool)))
+      (λ _ (b : State) (o : Buffers). done (with-kind Relocable (e₂ .info) e₁) b (bufs (set (o .code) (e₂ .info) (setBOf (word (o .code) (e₂ .info)) (e₁ .info))) (o .lines) (o .kinds) (o .values) (o .pool)))
 
   abbrev next : Step ExprContext
   next a k = andThen (exp2nextreg e₂ a k) (λ (d : ExprContext). code-concat e₁ d)
@@ -315,7 +315,7 @@ module _ (e₁ e₂ : ExprContext) (s : State) (code ls ks vs p : List ℕ) wher
   mem = bufs code ls ks vs p
 
   pub joined-longer : {t : State} {d : ExprContext} {after : List ℕ} → is-concat ≡ true → free-expr e₁ s mem ≡ done tt t mem →
-      set code (e₂ .info) (setBOf (word code (e₂ .info)) (e₁ .info)) ≡ after → is Relocable (e₂ .info) e₁ ≡ d → joined-to e₁ e₂ s mem ≡ done d t (bufs after ls ks vs p)
+      set code (e₂ .info) (setBOf (word code (e₂ .info)) (e₁ .info)) ≡ after → with-kind Relocable (e₂ .info) e₁ ≡ d → joined-to e₁ e₂ s mem ≡ done d t (bufs after ls ks vs p)
   unfolding andThen
   joined-longer h i j q = ap (λ (b : Bool). branch b lengthened next s mem) h ∙ simp (i, j, q)
 

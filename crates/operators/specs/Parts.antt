@@ -7,8 +7,8 @@ use Rattle.opcodes.specs.declared.OpCode.the-variants as op
 use Rattle.folding.specs.declared.Arith.{Arith}
 use Rattle.model.specs.declared.ExprKind.the-variants.{Jmp, Relocable}
 use Rattle.model.specs.declared.ExprContext.{ExprContext}
-use Rattle.model.specs.Steps.{Step, _>>=_, _>>_, return, words}
-use Rattle.model.specs.Descriptor.{is, jumps, isKind}
+use Rattle.model.specs.Steps.{Step, _>>=_, _>>_, return, code-now}
+use Rattle.model.specs.Descriptor.{with-kind, with-jumps, isKind}
 use Rattle.model.specs.Jumps.{word, isOp}
 use Rattle.model.specs.Discharge.{change-word, free-expr, exp2nextreg, exp2anyreg, exp2rk, rk}
 use Rattle.model.specs.Operators.{arithOp, free-both, code-concat, emit-comp}
@@ -33,7 +33,7 @@ arith-left o e₁ c = do
 -- of a comparison: what follows the jump, or the first operand
 
 abbrev pub jump-of : ExprContext → ℕ → Step ExprContext
-jump-of b list = return (jumps 0 0 (is Jmp (list - 1) b))
+jump-of b list = return (with-jumps 0 0 (with-kind Jmp (list - 1) b))
 
 abbrev pub comp-second : OpCode → Bool → Bool → Bool → ExprContext → ExprContext → Step ExprContext
 comp-second o cond swapped far x e = do
@@ -55,12 +55,12 @@ concat-left e₁ c = do
 -- of `join-concat`: what follows `exp2val`
 abbrev pub joined-to : ExprContext → ExprContext → Step ExprContext
 joined-to e₁ e₂ = do
-  code ← words
+  code ← code-now
   elim (isKind Relocable e₂ && isOp op.Concat (word code (e₂ .info))) [
     | true ↦ do
       free-expr e₁
       change-word (e₂ .info) (λ w. setBOf w (e₁ .info))
-      return (is Relocable (e₂ .info) e₁)
+      return (with-kind Relocable (e₂ .info) e₁)
     | false ↦ do
       e₄ ← exp2nextreg e₂
       code-concat e₁ e₄

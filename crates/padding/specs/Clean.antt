@@ -6,7 +6,7 @@ use mathlib.Core.List.{List}
 use lib.ListN.{length, getD}
 use Rattle.refusals.specs.declared.Refusal.{Refusal}
 use Rattle.model.specs.declared.State.{State}
-use Rattle.model.specs.Steps.{Buffers, Result, done, refused, Step, andThen, _>>=_, return, refuse, get, change, words, change-words, skip, when}
+use Rattle.model.specs.Steps.{Buffers, Result, done, refused, Step, andThen, _>>=_, return, refuse, get, change, code-now, change-words, skip, when}
 use Rattle.model.specs.Lowering.{Sizes}
 
 -- lengths are as lent; the words' lines fit; behind the words' lines, the constants and the texts all is zero
@@ -57,7 +57,7 @@ module _ {z : Sizes} where
   pub keeps-get : Keeps z get
   keeps-get s m c = clean s s m c
 
-  pub keeps-words : Keeps z words
+  pub keeps-words : Keeps z code-now
   keeps-words s m c = clean (m .code) s m c
 
   pub keeps-change : (f : State → State) → ((s : State) → f s .pc ≡ s .pc) → ((s : State) → f s .table ≡ s .table) → Keeps z (change f)

@@ -73,7 +73,7 @@ module _ (Γ : Setting) (p : Program) (t : List Constant) (lists : Lists p t) (m
       ∙ chosen (agrees (is-true (R b)) (run.flag (cOf x))) (run.to W p VS m (aOf x) (R b)) (goes (state (n + 2) rs l h)) ∙ rw (i .is-a, i .is-c, flag-bit k) refl)
 
   abbrev comparing : Kind → After
-  comparing o = run.rk W p VS m (bOf x) λ u. run.rk W p VS m (cOf x) λ v. run.compared W p VS m (run.flag (aOf x)) (ask-truth W o (u ∷ v ∷ []) h)
+  comparing o = run.rk-value W p VS m (bOf x) λ u. run.rk-value W p VS m (cOf x) λ v. run.compared W p VS m (run.flag (aOf x)) (ask-truth W o (u ∷ v ∷ []) h)
 
   carry-compare : (o : Kind) → Compares o → run.carry W p VS (comparison o) x m ≡ comparing o
   unfolding run.carry
@@ -92,7 +92,7 @@ module _ (Γ : Setting) (p : Program) (t : List Constant) (lists : Lists p t) (m
   compare-law o k i j u v c ci cj e =
       let f : Abc x (comparison o) (bit k) u v = abc e (omega (nat, bit-small k)) (rk-small t (p .frame) most i u ci) (rk-small t (p .frame) most j v cj) in
       rw (f .is-op) (carry-compare o c
-      ∙ rk-law W p VS t lists rs R holds n l h (omega nat) (bOf x) u i (λ y. run.rk W p VS m (cOf x) λ z. run.compared W p VS m (run.flag (aOf x)) (ask-truth W o (y ∷ z ∷ []) h)) (f .is-b) ci
+      ∙ rk-law W p VS t lists rs R holds n l h (omega nat) (bOf x) u i (λ y. run.rk-value W p VS m (cOf x) λ z. run.compared W p VS m (run.flag (aOf x)) (ask-truth W o (y ∷ z ∷ []) h)) (f .is-b) ci
       ∙ rk-law W p VS t lists rs R holds n l h (omega nat) (cOf x) v j (λ z. run.compared W p VS m (run.flag (aOf x)) (ask-truth W o (rk i R ∷ z ∷ []) h)) (f .is-c) cj
       ∙ rw (f .is-a, flag-bit k) (skips (agrees (compared Γ o i j R h .gives) k) (state n rs l (compared Γ o i j R h .steps))))
 

@@ -72,7 +72,7 @@ module _ (w : World) (p : Program) (varargs : List Value) where
 
     -- operands
     module _ (rs : List Value) (R : Regs) (holds : Holds (p .frame) rs R) (n : ℕ) (l : Option Open) (h : Hist) (most : p .frame ≤ bitRk) where
-      pub rk-law : (y u : ℕ) (x : Rk) (f : Value → After) → y ≡ u → CodesRk t (p .frame) x u → run.rk w p varargs (state n rs l h) y f ≡ f (rk x R)
-      rk-law y u (reg r) f e c = let z : y ≡ r = e ∙ c .0 in rw (lt-ltb y bitRk (omega (arith, c .1)), run.rk) (reg-law rs R holds n l h y r f z (c .1))
+      pub rk-law : (y u : ℕ) (x : Rk) (f : Value → After) → y ≡ u → CodesRk t (p .frame) x u → run.rk-value w p varargs (state n rs l h) y f ≡ f (rk x R)
+      rk-law y u (reg r) f e c = let z : y ≡ r = e ∙ c .0 in rw (lt-ltb y bitRk (omega (arith, c .1)), run.rk-value) (reg-law rs R holds n l h y r f z (c .1))
       rk-law y u (con v) f e c = let z : y - bitRk ≡ place (c .0) t = omega (arith, c .1 .1 .1 .1) in
-          rw (le-ltb y bitRk (omega (arith, c .1 .1 .1 .1)), run.rk) (constant-law (y - bitRk) (c .0) f z (c .1 .1 .0) ∙ ap f (c .1 .0))
+          rw (le-ltb y bitRk (omega (arith, c .1 .1 .1 .1)), run.rk-value) (constant-law (y - bitRk) (c .0) f z (c .1 .1 .0) ∙ ap f (c .1 .0))

@@ -50,7 +50,7 @@ module _ (Γ : Setting) (p : Program) (t : List Constant) (lists : Lists p t) (m
   reading : (y r : ℕ) (f : Value → After) → y ≡ r → r < p .frame → run.reg W p VS m y f ≡ f (R r)
   reading = reg-law W p VS rs R holds n l h
 
-  operand : (y u : ℕ) (k : Rk) (f : Value → After) → y ≡ u → CodesRk t (p .frame) k u → run.rk W p VS m y f ≡ f (rk k R)
+  operand : (y u : ℕ) (k : Rk) (f : Value → After) → y ≡ u → CodesRk t (p .frame) k u → run.rk-value W p VS m y f ≡ f (rk k R)
   operand = rk-law W p VS t lists rs R holds n l h (omega nat)
 
   -- the model's concatenations of a list of registers are those of labelled code
@@ -111,7 +111,7 @@ module _ (Γ : Setting) (p : Program) (t : List Constant) (lists : Lists p t) (m
       index-law : (k : Rk) (u : ℕ) → CodesRk t (p .frame) k u → x ≡ abcOf op.GetTable a r u → carries x ≡ writes a (ask W index-read (R r ∷ rk k R ∷ []) h .gives) (ask W index-read (R r ∷ rk k R ∷ []) h .steps)
       unfolding run.carry
       index-law k u c e = let i : Abc x op.GetTable a r u = abc e (omega nat) (omega nat) (rk-small t (p .frame) most k u c) in
-          rw (i .is-op) (reading (bOf x) r (λ o. run.rk W p VS m (cOf x) λ v. run.asked W p VS m (aOf x) index-read (o ∷ v ∷ [])) (i .is-b) lr
+          rw (i .is-op) (reading (bOf x) r (λ o. run.rk-value W p VS m (cOf x) λ v. run.asked W p VS m (aOf x) index-read (o ∷ v ∷ [])) (i .is-b) lr
           ∙ operand (cOf x) u k (λ v. run.asked W p VS m (aOf x) index-read (R r ∷ v ∷ [])) (i .is-c) c
           ∙ writing (ask W index-read (R r ∷ rk k R ∷ []) h .gives) (ask W index-read (R r ∷ rk k R ∷ []) h .steps) (i .is-a))
 
@@ -122,7 +122,7 @@ module _ (Γ : Setting) (p : Program) (t : List Constant) (lists : Lists p t) (m
         ∙ writing (ask W global-read (text g ∷ []) h .gives) (ask W global-read (text g ∷ []) h .steps) (i .is-a))
 
     abbrev arithmetic : Arith → After
-    arithmetic o = run.rk W p VS m (bOf x) λ u. run.rk W p VS m (cOf x) λ v. run.computed W p VS m (aOf x) (compute W o u v h)
+    arithmetic o = run.rk-value W p VS m (bOf x) λ u. run.rk-value W p VS m (cOf x) λ v. run.computed W p VS m (aOf x) (compute W o u v h)
 
     carry-arith : (o : Arith) → Binary o → run.carry W p VS (arithOp o) x m ≡ arithmetic o
     unfolding run.carry
@@ -137,7 +137,7 @@ module _ (Γ : Setting) (p : Program) (t : List Constant) (lists : Lists p t) (m
     arith-law : (o : Arith) (j k : Rk) (u v : ℕ) → Binary o → CodesRk t (p .frame) j u → CodesRk t (p .frame) k v → x ≡ abcOf (arithOp o) a u v →
         carries x ≡ writes a (compute W o (rk j R) (rk k R) h .gives) (compute W o (rk j R) (rk k R) h .steps)
     arith-law o j k u v b cj ck e = let i : Abc x (arithOp o) a u v = abc e (omega nat) (rk-small t (p .frame) most j u cj) (rk-small t (p .frame) most k v ck) in
-        rw (i .is-op) (carry-arith o b ∙ operand (bOf x) u j (λ y. run.rk W p VS m (cOf x) λ z. run.computed W p VS m (aOf x) (compute W o y z h)) (i .is-b) cj
+        rw (i .is-op) (carry-arith o b ∙ operand (bOf x) u j (λ y. run.rk-value W p VS m (cOf x) λ z. run.computed W p VS m (aOf x) (compute W o y z h)) (i .is-b) cj
         ∙ operand (cOf x) v k (λ z. run.computed W p VS m (aOf x) (compute W o (rk j R) z h)) (i .is-c) ck
         ∙ writing (compute W o (rk j R) (rk k R) h .gives) (compute W o (rk j R) (rk k R) h .steps) (i .is-a))
 
@@ -181,8 +181,8 @@ module _ (Γ : Setting) (p : Program) (t : List Constant) (lists : Lists p t) (m
   unfolding run.carry
   self-law x a o k u la lo c e = let i : Abc x op.OpSelf a o u = abc e (omega nat) (omega nat) (rk-small t (p .frame) most k u c) in
       let z : aOf x + 1 ≡ suc a = omega (nat, i .is-a) in
-      rw (i .is-op) (reading (bOf x) o (λ v. run.put W p VS m (aOf x + 1) v λ q. run.rk W p VS q (cOf x) λ y. run.asked W p VS q (aOf x) index-read (v ∷ y ∷ [])) (i .is-b) lo
-      ∙ put-law W p VS n l h rs (aOf x + 1) (suc a) (R o) (λ q. run.rk W p VS q (cOf x) λ y. run.asked W p VS q (aOf x) index-read (R o ∷ y ∷ [])) z la
+      rw (i .is-op) (reading (bOf x) o (λ v. run.put W p VS m (aOf x + 1) v λ q. run.rk-value W p VS q (cOf x) λ y. run.asked W p VS q (aOf x) index-read (v ∷ y ∷ [])) (i .is-b) lo
+      ∙ put-law W p VS n l h rs (aOf x + 1) (suc a) (R o) (λ q. run.rk-value W p VS q (cOf x) λ y. run.asked W p VS q (aOf x) index-read (R o ∷ y ∷ [])) z la
       ∙ rk-law W p VS t lists (set rs (suc a) (R o)) (upd (suc a) (R o) R) (holds-set (p .frame) rs R (suc a) (R o) la holds) n l h (omega nat) (cOf x) u k
       (λ y. run.asked W p VS (state n (set rs (suc a) (R o)) l h) (aOf x) index-read (R o ∷ y ∷ [])) (i .is-c) c
       ∙ to-law W p VS n l (evalS Γ a o k R h .steps) (set rs (suc a) (R o)) (aOf x) a (evalS Γ a o k R h .gives) (i .is-a) (omega nat))

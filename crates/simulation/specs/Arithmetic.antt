@@ -18,7 +18,7 @@ use Rattle.model.specs.Values.{folds}
 use Rattle.model.specs.declared.ExprKind.the-variants as kind
 use Rattle.model.specs.declared.ExprContext.{ExprContext}
 use Rattle.model.specs.declared.State.{State}
-use Rattle.model.specs.Descriptor.{is, is-numeral, tagOf}
+use Rattle.model.specs.Descriptor.{with-kind, is-numeral, tagOf}
 use Rattle.model.specs.Steps.{Buffers, done, Step, _>>=_, _>>_, return}
 use Rattle.model.specs.Emission.{with-free, emit}
 use Rattle.model.specs.Discharge.{exp2rk, rk}
@@ -191,8 +191,8 @@ module _ (Γ : Env) (s : State) (m : Buffers) (e₁ e₂ : ExprContext) (f g : �
   -- the word
   emitted : Ends (emit-arith o e₁ e₂ s m) (λ e′ s′ m′. SimD Γ s′ m′ e′ (ariJoin Kept o f n x (dv p)))
   unfolding emit-arith ariJoin rightFirst flush
-  emitted = both-right-first Γ s m e₁ e₂ f g n x p h d l k la (λ b c. free-both b c >> (emit (abcOf (arithOp o) 0 (rk b) (rk c)) >>= (λ pc. return (is kind.Relocable pc b)))) _ (λ b c s₄ m₄ w.
-      rw (w .freed, then-done {A = Unit {0}} tt (with-free f s₄) m₄ (λ _. emit (abcOf (arithOp o) 0 (rk b) (rk c)) >>= (λ pc. return (is kind.Relocable pc b))))
+  emitted = both-right-first Γ s m e₁ e₂ f g n x p h d l k la (λ b c. free-both b c >> (emit (abcOf (arithOp o) 0 (rk b) (rk c)) >>= (λ pc. return (with-kind kind.Relocable pc b)))) _ (λ b c s₄ m₄ w.
+      rw (w .freed, then-done {A = Unit {0}} tt (with-free f s₄) m₄ (λ _. emit (abcOf (arithOp o) 0 (rk b) (rk c)) >>= (λ pc. return (with-kind kind.Relocable pc b))))
       (ends-then (sim-emit (sim-fewer (w .now .sim) f (w .fewer)) (setw 0 (ari o (r .rkv) (exp2rkL (dv p) .rkv))) (abcOf (arithOp o) 0 (rk b) (rk c)) refl
       (λ us z. (omega (arith, w .now .sim .two), (rk b, (rk c, (two, (operand-codes s₄ b (r .st) (r .rkv) (w .left), (operand-codes s₄ c (r .st) (exp2rkL (dv p) .rkv) (w .right), z))))))))
       (λ pc s₅ m₅ y. gives _ s₅ m₅ refl (fresh-held (setH 0 0 (w .now .heads)) (pl (setw 0 (ari o (r .rkv) (exp2rkL (dv p) .rkv)))) _ (kd (kx (ari o (r .rkv) (exp2rkL (dv p) .rkv)))) f f (flush (r .st)) tt under (w .trues) (w .falses) (y .1 .1)

@@ -15,7 +15,7 @@ use Rattle.constants.specs.Entry.{Constant, nil, truth, number, text}
 use Rattle.model.specs.declared.ExprKind.the-variants as kind
 use Rattle.model.specs.declared.ExprContext.{ExprContext}
 use Rattle.model.specs.declared.State.{State}
-use Rattle.model.specs.Descriptor.{is, isKind, tagOf}
+use Rattle.model.specs.Descriptor.{with-kind, isKind, tagOf}
 use Rattle.model.specs.Steps.{Buffers, done, andThen, _>>_}
 use Rattle.model.specs.Jumps.{word}
 use Rattle.model.specs.Emission.{with-free, emit-at, reserve-regs}
@@ -46,7 +46,7 @@ above-is : (r : ℕ) → r < noReg → above r ≡ suc r
 unfolding above
 above-is r l = ap (λ (b : Bool). elim b [ true ↦ r + 1 | false ↦ noReg ]) (lt-ltb r noReg l) ∙ omega arith
 
-emit-call-is : (func : ExprContext) (b line : ℕ) (s : State) (m : Buffers) → emit-call func b line s m ≡ andThen (emit-at (abcOf op.Call (func .info) b 2) line s m) (λ pc s₁ m₁. done (is kind.Call pc func) (with-free (above (func .info)) s₁) m₁)
+emit-call-is : (func : ExprContext) (b line : ℕ) (s : State) (m : Buffers) → emit-call func b line s m ≡ andThen (emit-at (abcOf op.Call (func .info) b 2) line s m) (λ pc s₁ m₁. done (with-kind kind.Call pc func) (with-free (above (func .info)) s₁) m₁)
 unfolding emit-call andThen
 emit-call-is func b line s m = refl
 

@@ -16,7 +16,7 @@ use Rattle.model.specs.Values.{nil, truth, number, text, other}
 use Rattle.model.specs.declared.ExprKind.the-variants as kind
 use Rattle.model.specs.declared.ExprContext.{ExprContext}
 use Rattle.model.specs.declared.State.{State}
-use Rattle.model.specs.Descriptor.{is, isKind, tagOf}
+use Rattle.model.specs.Descriptor.{with-kind, isKind, tagOf}
 use Rattle.model.specs.Steps.{Buffers, Step, andThen, _>>=_, _>>_, return}
 use Rattle.model.specs.Jumps.{word, isOp}
 use Rattle.model.specs.Emission.{with-free, emit}
@@ -77,9 +77,9 @@ module _ (Γ : Env) (e₁ : ExprContext) (f : ℕ) (one : 1 ≤ Γ .n) (la : Γ 
   two-regs : (s : State) (m : Buffers) (e₄ : ExprContext) (τ : St) → InF e₁ f → On (Γ .n) τ → τ .free ≡ suc (suc f) → SimR Γ s m e₄ (record { st = τ; rgn = suc f }) → Ends (code-concat e₁ e₄ s m) (λ e′ s′ m′. SimD Γ s′ m′ e′ (fresh (kd (kx (cat f 1))) f (flush τ)))
   unfolding code-concat flush
   two-regs s m e₄ τ i on taken h = ends-then (next-again e₄ τ (suc f) one on (omega arith) taken h) (λ c s₁ m₁ x.
-      rw (any-stays e₁ s₁ m₁ (i .kind) (i .trues) (i .falses), then-done e₁ s₁ m₁ (λ b. free-expr c >> (free-expr b >> (emit (abcOf op.Concat 0 (b .info) (c .info)) >>= (λ pc. return (is kind.Relocable pc b))))))
-      (rw (free-register {f = suc f} (record { st = τ; rgn = suc f }) (omega arith) x (temporary refl taken), then-done {A = Unit {0}} tt (with-free (suc f) s₁) m₁ (λ _. free-expr e₁ >> (emit (abcOf op.Concat 0 (e₁ .info) (c .info)) >>= (λ pc. return (is kind.Relocable pc e₁)))))
-      (rw (free-register {f = f} (record { st = setFree (suc f) τ; rgn = f }) la (below s₁ m₁ c x) (temporary refl refl), then-done {A = Unit {0}} tt (with-free f s₁) m₁ (λ _. emit (abcOf op.Concat 0 (e₁ .info) (c .info)) >>= (λ pc. return (is kind.Relocable pc e₁))), i .info, x .info)
+      rw (any-stays e₁ s₁ m₁ (i .kind) (i .trues) (i .falses), then-done e₁ s₁ m₁ (λ b. free-expr c >> (free-expr b >> (emit (abcOf op.Concat 0 (b .info) (c .info)) >>= (λ pc. return (with-kind kind.Relocable pc b))))))
+      (rw (free-register {f = suc f} (record { st = τ; rgn = suc f }) (omega arith) x (temporary refl taken), then-done {A = Unit {0}} tt (with-free (suc f) s₁) m₁ (λ _. free-expr e₁ >> (emit (abcOf op.Concat 0 (e₁ .info) (c .info)) >>= (λ pc. return (with-kind kind.Relocable pc e₁)))))
+      (rw (free-register {f = f} (record { st = setFree (suc f) τ; rgn = f }) la (below s₁ m₁ c x) (temporary refl refl), then-done {A = Unit {0}} tt (with-free f s₁) m₁ (λ _. emit (abcOf op.Concat 0 (e₁ .info) (c .info)) >>= (λ pc. return (with-kind kind.Relocable pc e₁))), i .info, x .info)
       (ends-then (sim-emit (sim-fewer (x .now .sim) f (omega (arith, taken))) (setw 0 (cat f 1)) (abcOf op.Concat 0 f (suc f)) refl (λ us z. (omega (arith, x .now .sim .two), (omega arith, (omega (arith, x .below), z ∙ ap (abcOf op.Concat 0 f) (omega arith))))))
       (λ pc s₂ m₂ q. gives _ s₂ m₂ refl (fresh-held (setH 0 0 (x .now .heads)) (pl (setw 0 (cat f 1))) _ (kd (kx (cat f 1))) f f (flush τ) tt (flush-u (τ .nxt) (omega (arith, on .up)) τ (on .old)) (i .trues) (i .falses) (q .1 .1) (refl, (q .0 ∙ sym (size-edit (here (τ .code)) (τ .code)), (rw (same-refl 0) refl, q .1 .1)))))))))
     where
@@ -138,7 +138,7 @@ con-kind (ktext x) = refl
 
 module _ (Γ : Env) (e₁ : ExprContext) (f : ℕ) (one : 1 ≤ Γ .n) (la : Γ .active ≤ f) (i : InF e₁ f) where
   abbrev lengthen : ExprContext → Step ExprContext
-  lengthen e₃ = free-expr e₁ >> (change-word (e₃ .info) (λ w. setBOf w (e₁ .info)) >> return (is kind.Relocable (e₃ .info) e₁))
+  lengthen e₃ = free-expr e₁ >> (change-word (e₃ .info) (λ w. setBOf w (e₁ .info)) >> return (with-kind kind.Relocable (e₃ .info) e₁))
 
   abbrev joins : ExprContext → Step ExprContext
   joins e₃ s m = pick (isKind kind.Relocable e₃ && isOp op.Concat (word (m .code) (e₃ .info))) (lengthen e₃ s m) ((exp2nextreg e₃ >>= code-concat e₁) s m)

@@ -17,7 +17,7 @@ use Rattle.model.specs.Values.{Kind, valueOf}
 use Rattle.model.specs.declared.ExprKind.the-variants as kind
 use Rattle.model.specs.declared.ExprContext.{ExprContext}
 use Rattle.model.specs.declared.State.{State}
-use Rattle.model.specs.Descriptor.{is, jumps, is-numeral, has-jumps}
+use Rattle.model.specs.Descriptor.{with-kind, with-jumps, is-numeral, has-jumps}
 use Rattle.model.specs.Steps.{Buffers, Result, done, refused, Step, andThen, _>>=_, _>>_, return}
 use Rattle.model.specs.Conditions.{bit}
 use Rattle.model.specs.Emission.{with-free, emit, emit-jump, add-constant}
@@ -131,7 +131,7 @@ module _ (Γ : Env) (o : Kind) (cmps : Compares o) (cond swapped : Bool) (f : �
   compared : (s : State) (m : Buffers) (b c : ExprContext) (σ : St) (x y : Rk) → On (Γ .n) σ → Both Γ s m b c σ x y f → Ends (emit-comp (comparison o) cond swapped b c s m) (λ e′ s′ m′. SimD Γ s′ m′ e′ (fresh (kd (kcmp swapped o cond x y)) f (flush σ)))
   unfolding emit-comp flush fresh
   compared s m b c σ x y on w = rw (w .freed, then-done {A = Unit {0}} tt (with-free f s) m _, kcmp-is swapped o cond x y)
-      (ends-assoc (emit (abcOf (comparison o) (bit cond) u v)) emit-jump (λ list. return (jumps 0 0 (is kind.Jmp (list - 1) b))) (with-free f s) m (sim-pair (sim-fewer (w .now .sim) f (w .fewer)) (cmp o cond X Y) J (abcOf (comparison o) (bit cond) u v) refl tt
+      (ends-assoc (emit (abcOf (comparison o) (bit cond) u v)) emit-jump (λ list. return (with-jumps 0 0 (with-kind kind.Jmp (list - 1) b))) (with-free f s) m (sim-pair (sim-fewer (w .now .sim) f (w .fewer)) (cmp o cond X Y) J (abcOf (comparison o) (bit cond) u v) refl tt
       (λ us z. (u, v, z, cmps, side-codes swapped s b c σ x y (w .left) (w .right), side-codes swapped s c b σ y x (w .right) (w .left))) tt (omega (arith, on .up)) (omega (arith, on .up)) (under-list (w .now .sim) (σ .nxt) J (omega arith) (on .old)))
       (λ list s′ m′ q. gives _ s′ m′ refl (standing s′ m′ list (q .0) (q .1 .1))))
     where
@@ -159,7 +159,7 @@ module _ (Γ : Env) (o : Kind) (cmps : Compares o) (cond swapped : Bool) (f : �
       unused : (ℓ : ℕ) → σ .nxt ≤ ℓ → (ℓ ≡ J → ⊥) → G ℓ ≡ 0
       unused ℓ l z = rw (same-ne ℓ J z, same-ne ℓ 0 (λ z. omega (arith, on .up))) (under-list (w .now .sim) (σ .nxt) ℓ l (on .old))
 
-      standing : (s′ : State) (m′ : Buffers) (list : ℕ) → list ≡ suc (1 + size (σ .code)) → Sim Γ s′ m′ G (br (cmp o cond X Y) (lbl J) ∷ edit (here (σ .code)) (σ .code)) f (σ .tab) → SimD Γ s′ m′ (jumps 0 0 (is kind.Jmp (list - 1) b)) (fresh (kd (kj o cond X Y)) f (flush σ))
+      standing : (s′ : State) (m′ : Buffers) (list : ℕ) → list ≡ suc (1 + size (σ .code)) → Sim Γ s′ m′ G (br (cmp o cond X Y) (lbl J) ∷ edit (here (σ .code)) (σ .code)) f (σ .tab) → SimD Γ s′ m′ (with-jumps 0 0 (with-kind kind.Jmp (list - 1) b)) (fresh (kd (kj o cond X Y)) f (flush σ))
       standing s′ m′ list z y = record {
         heads = G;
         is = (refl, (omega (arith, z, size-edit (here (σ .code)) (σ .code)), (rw (same-ne 0 J (λ z. omega arith), same-refl 0) refl, (J, (omega arith, (rw (same-refl J) (omega (arith, z)), y))))));
@@ -182,9 +182,9 @@ numeral-rk e b s m n = ap (λ x. andThen x (λ e₁. rk-kind (e₁ .kind) e₁))
     plain : pick (has-jumps e) (exp2anyreg e s m) (discharge-vars e s m) ≡ discharge-vars e s m
     plain = rw (n .trues, n .falses) refl
 
-near-stays : (e : ExprContext) (i : ℕ) (s : State) (m : Buffers) → leb i maxIndexRk ≡ true → near e i s m ≡ done (is kind.K i e) s m
+near-stays : (e : ExprContext) (i : ℕ) (s : State) (m : Buffers) → leb i maxIndexRk ≡ true → near e i s m ≡ done (with-kind kind.K i e) s m
 unfolding near
-near-stays e i s m z = chosen (leb i maxIndexRk) (return (is kind.K i e)) (exp2anyreg e) s m ∙ rw z refl
+near-stays e i s m z = chosen (leb i maxIndexRk) (return (with-kind kind.K i e)) (exp2anyreg e) s m ∙ rw z refl
 
 module _ (Γ : Env) (s : State) (m : Buffers) (e₁ e₂ : ExprContext) (f g : ℕ) (p : Pair) (h : Sound Γ g p) (la : Γ .active ≤ f) (rest : ExprContext → ExprContext → Step ExprContext) (Q : ExprContext → State → Buffers → Type 0) where
   -- it is an operand already
@@ -243,8 +243,8 @@ module _ (Γ : Env) (s : State) (m : Buffers) (e₁ e₂ : ExprContext) (f g : �
   near-bits : Numeral e₁ (e₁ .bits) → g ≡ f → isNear (number (e₁ .bits)) (p .st .tab) ≡ true → Ends (code-comp (comparison o) cond swapped e₁ e₂ s m) (λ e′ s′ m′. Near (e₁ .bits) (dv (addD (number (e₁ .bits)) p)) e′ s′ m′)
   unfolding compare-operands isNear
   near-bits num z t = rw (comp-is, far-test (e₁ .bits) num z, t, numeral-rk e₁ (e₁ .bits) s m num, ← (then-assoc (add-constant [] (val.Number (e₁ .number) (e₁ .bits)) s m) (near e₁) (λ b. exp2rk e₂ >>= (λ c. F b c))))
-      (ends-then (sim-add-d p (val.Number (e₁ .number) (e₁ .bits)) tt d) (λ i s₁ m₁ q. rw (near-stays e₁ i s₁ m₁ (rw (q .0) t), then-done (is kind.K i e₁) s₁ m₁ (λ b. exp2rk e₂ >>= (λ c. F b c)))
-      (operand-first Γ s₁ m₁ (is kind.K i e₁) e₂ f g (addD c p) (sound-add c p h) la F _ X (q .1 .1)
+      (ends-then (sim-add-d p (val.Number (e₁ .number) (e₁ .bits)) tt d) (λ i s₁ m₁ q. rw (near-stays e₁ i s₁ m₁ (rw (q .0) t), then-done (with-kind kind.K i e₁) s₁ m₁ (λ b. exp2rk e₂ >>= (λ c. F b c)))
+      (operand-first Γ s₁ m₁ (with-kind kind.K i e₁) e₂ f g (addD c p) (sound-add c p h) la F _ X (q .1 .1)
       ((refl, (c, (refl, (listed-include c (p .st .tab), (rw (place-include c (p .st .tab)) (near-place c (p .st .tab) t), ap (λ j. j + bitRk) (q .0 ∙ sym (place-include c (p .st .tab)))))))), (num .trues, num .falses)) (constant z)
       (λ b c′ s₄ m₄ w. compared Γ o cmps cond swapped f (h .some) s₄ m₄ b c′ _ _ _ (rk-on (Γ .n) (h .some) (dv (addD c p)) (dv-new (Γ .n) (h .some) (addD c p) (sound-add c p h .new))) w))))
     where

@@ -6,7 +6,7 @@ use mathlib.Core.List.{_∷_}
 use native.Mathlib.Omega.{arith}
 use Rattle.model.specs.declared.ExprContext.{ExprContext}
 use Rattle.model.specs.declared.State.{State}
-use Rattle.model.specs.Descriptor.{jumps}
+use Rattle.model.specs.Descriptor.{with-jumps}
 use Rattle.model.specs.Steps.{Buffers, done, Step, _>>=_, _>>_, return}
 use Rattle.model.specs.Jumps.{concat-jumps, linked}
 use Rattle.model.specs.Emission.{with-jpc, concat, patch-to-here}
@@ -120,12 +120,12 @@ module _ {Γ : Env} {s : State} {m : Buffers} {e : ExprContext} {f : ℕ} (p : P
   pub sim-go-true : Quiet false → Ends (goiftrue e s m) (λ e′ s′ m′. Gone Γ s′ m′ (e′ .f) (p .de .fl) (goIf false (dv p)))
   unfolding goiftrue goIf
   sim-go-true nl = ends-then (sim-dv p h d) (λ e₁ s₁ m₁ x. ends-then (went false e₁ s₁ m₁ (x .1 .1)) (λ list s₂ m₂ y.
-      ends-map (joins Γ (e₁ .t) (e₁ .f) (p .de .tl) (p .de .fl) (q₄ .st .nxt) (p .de .fl) (p .de .tl) (e₁ .f) (e₁ .t) (h .some) (h .new .fl-new) (h .new .tl-new) (λ z. h .differ (sym z)) (sound-dv p h .new .fl-old) (sound-dv p h .new .tl-old) e₁ (λ z. jumps 0 z) list _ (λ G a b. (b, a)) nl y)
+      ends-map (joins Γ (e₁ .t) (e₁ .f) (p .de .tl) (p .de .fl) (q₄ .st .nxt) (p .de .fl) (p .de .tl) (e₁ .f) (e₁ .t) (h .some) (h .new .fl-new) (h .new .tl-new) (λ z. h .differ (sym z)) (sound-dv p h .new .fl-old) (sound-dv p h .new .tl-old) e₁ (λ z. with-jumps 0 z) list _ (λ G a b. (b, a)) nl y)
       (λ e′ s′ m′ z. record { heads = z .1 .1 .heads; sim = z .1 .1 .sim; list-is = rw (z .1 .0) (z .1 .1 .list-is) })))
 
   -- `goiffalse`
   pub sim-go-false : Quiet true → Ends (goiffalse e s m) (λ e′ s′ m′. Gone Γ s′ m′ (e′ .t) (p .de .tl) (goIf true (dv p)))
   unfolding goiffalse goIf
   sim-go-false nl = ends-then (sim-dv p h d) (λ e₁ s₁ m₁ x. ends-then (went true e₁ s₁ m₁ (x .1 .1)) (λ list s₂ m₂ y.
-      ends-map (joins Γ (e₁ .t) (e₁ .f) (p .de .tl) (p .de .fl) (q₄ .st .nxt) (p .de .tl) (p .de .fl) (e₁ .t) (e₁ .f) (h .some) (h .new .tl-new) (h .new .fl-new) (h .differ) (sound-dv p h .new .tl-old) (sound-dv p h .new .fl-old) e₁ (λ z. jumps z 0) list _ (λ G a b. (a, b)) nl y)
+      ends-map (joins Γ (e₁ .t) (e₁ .f) (p .de .tl) (p .de .fl) (q₄ .st .nxt) (p .de .tl) (p .de .fl) (e₁ .t) (e₁ .f) (h .some) (h .new .tl-new) (h .new .fl-new) (h .differ) (sound-dv p h .new .tl-old) (sound-dv p h .new .fl-old) e₁ (λ z. with-jumps z 0) list _ (λ G a b. (a, b)) nl y)
       (λ e′ s′ m′ z. record { heads = z .1 .1 .heads; sim = z .1 .1 .sim; list-is = rw (z .1 .0) (z .1 .1 .list-is) })))

@@ -7,7 +7,7 @@ use native.Mathlib.Omega.{arith}
 use Rattle.constants.specs.Entry.{Constant, nil, truth, number, text}
 use Rattle.model.specs.declared.ExprContext.{ExprContext}
 use Rattle.model.specs.declared.State.{State}
-use Rattle.model.specs.Descriptor.{is, jumps}
+use Rattle.model.specs.Descriptor.{with-jumps}
 use Rattle.model.specs.Steps.{Buffers, return}
 use Rattle.model.specs.Jumps.{concat-jumps, linked}
 use Rattle.model.specs.Operators.{code-and, code-or}
@@ -91,7 +91,7 @@ module _ (Γ : Env) (F n : ℕ) (L : ℕ → ℕ) (more : Γ .least ≤ F) (up :
     pub sim-and : (e₁ : ExprContext) → e₁ .f ≡ list → Ends (code-and e₁ e₂ s m) (λ e′ s′ m′. SimD Γ s′ m′ e′ (lift4 (log₂ false a q)))
     unfolding code-and log₂
     sim-and e₁ z = ends-then (sim-dv p h d) (λ e₃ s₃ m₃ y. let x = y .1 .1 in
-        rw (z ∙ is-list ∙ sym (others-d (lift4 q) x a (omega arith) la), x .falses, concat-is (x .heads (p .de .fl)) (x .heads a) s₃ m₃, then-done (concat-jumps (x .heads (p .de .fl)) (x .heads a)) s₃ (with-code (linked (m₃ .code) (x .heads (p .de .fl)) (x .heads a)) m₃) (λ f. return (jumps (e₃ .t) f e₃)))
+        rw (z ∙ is-list ∙ sym (others-d (lift4 q) x a (omega arith) la), x .falses, concat-is (x .heads (p .de .fl)) (x .heads a) s₃ m₃, then-done (concat-jumps (x .heads (p .de .fl)) (x .heads a)) s₃ (with-code (linked (m₃ .code) (x .heads (p .de .fl)) (x .heads a)) m₃) (λ f. return (with-jumps (e₃ .t) f e₃)))
         (gives _ s₃ _ refl (record {
           heads = setH (p .de .fl) (concat-jumps (x .heads (p .de .fl)) (x .heads a)) (setH a 0 (x .heads));
           is = is4-jumps Γ s₃ _ _ e₃ (relabel a (p .de .fl) (q .st)) (e₃ .t) (concat-jumps (x .heads (p .de .fl)) (x .heads a)) (q .de .k4) (joined false e₃ s₃ m₃ x);
@@ -102,7 +102,7 @@ module _ (Γ : Env) (F n : ℕ) (L : ℕ → ℕ) (more : Γ .least ≤ F) (up :
     pub sim-or : (e₁ : ExprContext) → e₁ .t ≡ list → Ends (code-or e₁ e₂ s m) (λ e′ s′ m′. SimD Γ s′ m′ e′ (lift4 (log₂ true a q)))
     unfolding code-or log₂
     sim-or e₁ z = ends-then (sim-dv p h d) (λ e₃ s₃ m₃ y. let x = y .1 .1 in
-        rw (z ∙ is-list ∙ sym (others-d (lift4 q) x a (omega arith) la), x .trues, concat-is (x .heads (p .de .tl)) (x .heads a) s₃ m₃, then-done (concat-jumps (x .heads (p .de .tl)) (x .heads a)) s₃ (with-code (linked (m₃ .code) (x .heads (p .de .tl)) (x .heads a)) m₃) (λ t. return (jumps t (e₃ .f) e₃)))
+        rw (z ∙ is-list ∙ sym (others-d (lift4 q) x a (omega arith) la), x .trues, concat-is (x .heads (p .de .tl)) (x .heads a) s₃ m₃, then-done (concat-jumps (x .heads (p .de .tl)) (x .heads a)) s₃ (with-code (linked (m₃ .code) (x .heads (p .de .tl)) (x .heads a)) m₃) (λ t. return (with-jumps t (e₃ .f) e₃)))
         (gives _ s₃ _ refl (record {
           heads = setH (p .de .tl) (concat-jumps (x .heads (p .de .tl)) (x .heads a)) (setH a 0 (x .heads));
           is = is4-jumps Γ s₃ _ _ e₃ (relabel a (p .de .tl) (q .st)) (concat-jumps (x .heads (p .de .tl)) (x .heads a)) (e₃ .f) (q .de .k4) (joined true e₃ s₃ m₃ x);

@@ -21,7 +21,7 @@ use Rattle.chunk.specs.Form.{namesOf}
 use Rattle.chunk.specs.declared.header.Header.{Header}
 use Rattle.model.specs.declared.ExprKind.the-variants as kind
 use Rattle.model.specs.declared.State.{State}
-use Rattle.model.specs.Descriptor.{newOf, numberOf}
+use Rattle.model.specs.Descriptor.{newOf, descriptorOf}
 use Rattle.model.specs.Steps.{Buffers, _>>=_, return}
 use Rattle.model.specs.Jumps.{word}
 use Rattle.model.specs.Emission.{emit, add-constant}
@@ -94,7 +94,7 @@ module _ {Γ : Env} {s : State} {m : Buffers} (chunk : List ℕ) (σ : St) (on :
     sim-leaf nm leaf.Nil short w = gives _ s m refl (fresh-desc (newOf kind.Nil 0) (kd (kc nil)) (σ .free) σ (on .old) refl refl h (refl, h .sim))
     sim-leaf nm leaf.True short w = gives _ s m refl (fresh-desc (newOf kind.True 0) (kd (kc (truth true))) (σ .free) σ (on .old) refl refl h (refl, h .sim))
     sim-leaf nm leaf.False short w = gives _ s m refl (fresh-desc (newOf kind.False 0) (kd (kc (truth false))) (σ .free) σ (on .old) refl refl h (refl, h .sim))
-    sim-leaf nm (leaf.Number b) short w = gives _ s m refl (fresh-desc (numberOf (numeralOf b)) (kd (kc (number b))) (σ .free) σ (on .old) refl refl h ((refl, (refl, refl)), h .sim))
+    sim-leaf nm (leaf.Number b) short w = gives _ s m refl (fresh-desc (descriptorOf (numeralOf b)) (kd (kc (number b))) (σ .free) σ (on .old) refl refl h ((refl, (refl, refl)), h .sim))
     sim-leaf nm (leaf.Str t) short w = ends-then (text-listed t short) (λ i s′ m′ q. gives _ s′ m′ refl (text-desc t i (q .0) (q .1 .1)))
     sim-leaf nm leaf.VarArg short w = sim-vararg
     sim-leaf nm (leaf.Name t) short w = subst (λ ns. Ends (resolved chunk hd t (search-local chunk (bytesOf chunk t) ns 0) s m) (λ e s′ m′. SimD Γ s′ m′ e (resolvedL chunk names (bytesOf chunk t) (search-local chunk (bytesOf chunk t) names 0) σ))) nm (sim-resolved t (search-local chunk (bytesOf chunk t) names 0) short w)

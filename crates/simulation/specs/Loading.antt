@@ -18,7 +18,7 @@ use Rattle.model.specs.declared.ExprKind.{ExprKind}
 use Rattle.model.specs.declared.ExprKind.the-variants as kind
 use Rattle.model.specs.declared.ExprContext.{ExprContext}
 use Rattle.model.specs.declared.State.{State}
-use Rattle.model.specs.Descriptor.{is, jumps, isKind, tagOf}
+use Rattle.model.specs.Descriptor.{with-kind, with-jumps, isKind, tagOf}
 use Rattle.constants.specs.declared.Val.the-variants.{Number}
 use Rattle.model.specs.Values.{Value, Kind, nil as vnil, truth as vtruth, number as vnumber, text as vtext, other}
 use Rattle.model.specs.Jumps.{word, jump-list, concat-jumps, linked}
@@ -223,7 +223,7 @@ module _ (Γ : Env) (s : State) (m : Buffers) (H : ℕ → ℕ) (e : ExprContext
 
   -- loaded by a word of its own
   by-word : (k : K4) (x : Ex) (w : ℕ) (τ : St) (s₁ : State) (m₁ : Buffers) → isCmp k ≡ false → s₁ .frame ≡ s .frame → Sim Γ s₁ m₁ H (τ .code) (τ .free) (τ .tab) → ((us : List ℕ) (n : ℕ) → word us n ≡ w → Codes (τ .tab) (s₁ .frame) us n (setw r x)) →
-      Ends (andThen (emit w s₁ m₁) (λ _. return (is kind.NonReloc r e))) (λ e′ s′ m′. Ldd k (push (pl (setw r x)) τ) e′ s′ m′)
+      Ends (andThen (emit w s₁ m₁) (λ _. return (with-kind kind.NonReloc r e))) (λ e′ s′ m′. Ldd k (push (pl (setw r x)) τ) e′ s′ m′)
   unfolding push
   by-word k x w τ s₁ m₁ c φ h q = ends-then (sim-emit h (setw r x) w refl (λ us y. q us _ y)) (λ a s′ m′ p.
       gives _ s′ m′ refl (record { heads = G₀; sim = p .1 .1; trues = g-t; falses = g-f; jmp = sym c; frame = p .1 .0 .frame ∙ φ; place = λ z. (refl, (refl, (refl, refl))) }))
@@ -259,9 +259,9 @@ module _ (Γ : Env) (s : State) (m : Buffers) (H : ℕ → ℕ) (e : ExprContext
   unfolding load-kind d2r same
   load-reg-at u k h = (rw (chosen (not (eqb r (e .info))) (move r (e .info)) skip s m, h .1 .0) (go (eqb r k)))
     where
-      go : (b : Bool) → Ends (andThen (pick (not b) (move r k s m) (skip s m)) (λ _. return (is kind.NonReloc r e))) (λ e′ s′ m′. Ldd (kr u k) (pick b σ (push (pl (setw r (cp k))) σ)) e′ s′ m′)
+      go : (b : Bool) → Ends (andThen (pick (not b) (move r k s m) (skip s m)) (λ _. return (with-kind kind.NonReloc r e))) (λ e′ s′ m′. Ldd (kr u k) (pick b σ (push (pl (setw r (cp k))) σ)) e′ s′ m′)
       go true = gives _ s m (then-done tt s m _) (record { heads = H; sim = h .1 .1 .1; trues = et; falses = ef; jmp = refl; frame = refl; place = λ z. (refl, (refl, (refl, refl))) })
-      go false = rw (skip-then (emit (abcOf op.Move r k 0) s m) (return (is kind.NonReloc r e))) (by-word (kr u k) (cp k) (abcOf op.Move r k 0) σ s m refl refl (h .1 .1 .1) (λ us n z. (below, (h .1 .1 .0, z))))
+      go false = rw (skip-then (emit (abcOf op.Move r k 0) s m) (return (with-kind kind.NonReloc r e))) (by-word (kr u k) (cp k) (abcOf op.Move r k 0) σ s m refl refl (h .1 .1 .1) (λ us n z. (below, (h .1 .1 .0, z))))
 
   load-word-at : (x : Ex) → Is4 Γ s m H e σ (kx x) → Goal₁ (kx x)
   unfolding load-kind d2r push andThen
@@ -312,8 +312,8 @@ module _ (Γ : Env) (s : State) (m : Buffers) (H : ℕ → ℕ) (e : ExprContext
       load-is : loads (kj a k x y) e r s m ≡ join-jump e s m
       load-is = then-done e s m join-jump
 
-      joins : join-jump e s m ≡ andThen (concat (H tl) (H j) s m) (λ t. return (jumps t (e .f) e))
-      joins = chosen (isKind kind.Jmp e) (concat (e .t) (jump-list (e .info)) >>= (λ t. return (jumps t (e .f) e))) (return e) s m ∙
+      joins : join-jump e s m ≡ andThen (concat (H tl) (H j) s m) (λ t. return (with-jumps t (e .f) e))
+      joins = chosen (isKind kind.Jmp e) (concat (e .t) (jump-list (e .info)) >>= (λ t. return (with-jumps t (e .f) e))) (return e) s m ∙
           rw (is-jmp, jump-list-is (e .info) inside ∙ sym (h .1 .1 .1 .1 .1 .0), et) refl
 
   load-con-at : (v : Constant) → Is4 Γ s m H e σ (kc v) → Goal₁ (kc v)

@@ -14,7 +14,7 @@ use Rattle.chunk.specs.declared.header.Header.{Header}
 use Rattle.model.specs.declared.ExprKind.the-variants as kind
 use Rattle.model.specs.declared.ExprContext.{ExprContext}
 use Rattle.model.specs.declared.State.{State}
-use Rattle.model.specs.Descriptor.{newOf, is}
+use Rattle.model.specs.Descriptor.{newOf, with-kind}
 use Rattle.model.specs.Steps.{Buffers, done, andThen, _>>_, return}
 use Rattle.model.specs.Emission.{with-free, emit}
 use Rattle.model.specs.Discharge.{free-expr, rk}
@@ -59,10 +59,10 @@ module _ (Γ : Env) (e₁ : ExprContext) (f i : ℕ) (one : 1 ≤ Γ .n) (la : �
 
   -- the word, and the key is free again
   looked-up : (s : State) (m : Buffers) (k : ExprContext) → e₁ .info ≡ x .rgn → x .rgn < s .frame → suc f < s .frame → e₁ .t ≡ 0 → e₁ .f ≡ 0 → SimK Γ s m k r →
-      Ends ((emit (abcOf op.OpSelf f (e₁ .info) (rk k)) >> (free-expr k >> return (is kind.NonReloc f e₁))) s m) (λ e′ s′ m′. SimR Γ s′ m′ e′ (record { st = codeSelf t x f; rgn = f }))
+      Ends ((emit (abcOf op.OpSelf f (e₁ .info) (rk k)) >> (free-expr k >> return (with-kind kind.NonReloc f e₁))) s m) (λ e′ s′ m′. SimR Γ s′ m′ e′ (record { st = codeSelf t x f; rgn = f }))
   unfolding codeSelf push
   looked-up s m k z l b u v h = rw z (ends-then (sim-emit (h .now .sim) (selfw f (x .rgn) (r .rkv)) (abcOf op.OpSelf f (x .rgn) (rk k)) refl (λ us y. (rk k, (b, (l, (operand-codes s k (r .st) (r .rkv) (h .is), y))))))
-      (λ pc s₁ m₁ q. let n = q .1 .1 in rw (key-free s₁ m₁ (n .locals) (n .free), then-done {A = Unit {0}} tt (with-free (2 + f) s₁) m₁ (λ _. return (is kind.NonReloc f e₁)))
+      (λ pc s₁ m₁ q. let n = q .1 .1 in rw (key-free s₁ m₁ (n .locals) (n .free), then-done {A = Unit {0}} tt (with-free (2 + f) s₁) m₁ (λ _. return (with-kind kind.NonReloc f e₁)))
       (gives _ (with-free (2 + f) s₁) m₁ refl (record { kind = refl; info = refl; below = rw (q .1 .0 .frame) (omega arith); trues = u; falses = v; now = record { heads = setH 0 0 (h .now .heads); sim = sim-fewer n (2 + f) (takes-more (Γ .active) (2 + f) (r .st .free) (r .rkv) key-takes) } }))))
     where
       key-takes : Takes (Γ .active) (2 + f) (r .st .free) (r .rkv)

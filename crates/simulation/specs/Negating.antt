@@ -13,7 +13,7 @@ use Rattle.model.specs.Values.{Kind}
 use Rattle.model.specs.declared.ExprKind.the-variants as kind
 use Rattle.model.specs.declared.ExprContext.{ExprContext}
 use Rattle.model.specs.declared.State.{State}
-use Rattle.model.specs.Descriptor.{is, jumps}
+use Rattle.model.specs.Descriptor.{with-kind, with-jumps}
 use Rattle.model.specs.Steps.{Buffers, done, Step, andThen, _>>=_, _>>_, return, change-words}
 use Rattle.model.specs.Jumps.{remove-values}
 use Rattle.model.specs.Emission.{emit}
@@ -64,7 +64,7 @@ module _ (Γ : Env) (s : State) (m : Buffers) (H : ℕ → ℕ) (e : ExprContext
 
   -- another value: a `Not` to come
   abbrev nots : ExprContext → Step ExprContext
-  nots e₁ = emit (abcOf op.Not 0 (e₁ .info) 0) >>= (λ pc. return (is kind.Relocable pc e₁))
+  nots e₁ = emit (abcOf op.Not 0 (e₁ .info) 0) >>= (λ pc. return (with-kind kind.Relocable pc e₁))
 
   not-value : (k : K4) → isCmp k ≡ false → Own4 (Γ .active) f k (σ .free) → Is4 Γ s m H e σ k → Ends (emit-not e s m) (λ e′ s′ m′. SimD Γ s′ m′ e′ (record { st = setFree f (flush (codeK k tl f σ)); de = record { kind = kd (kx (notx (regK k f))); tl = tl; fl = fl } }))
   unfolding emit-not flush
@@ -116,7 +116,7 @@ module _ (Γ : Env) (s : State) (m : Buffers) (H : ℕ → ℕ) (e : ExprContext
       other q = rw (same-ne j a (λ z. omega (arith, h .1 .1 .1 .1 .0))) at q
 
 -- the lists are no part of what a descriptor is
-pub is4-jumps : (Γ : Env) (s : State) (m : Buffers) (H : ℕ → ℕ) (e : ExprContext) (σ : St) (a b : ℕ) (k : K4) → Is4 Γ s m H e σ k → Is4 Γ s m H (jumps a b e) σ k
+pub is4-jumps : (Γ : Env) (s : State) (m : Buffers) (H : ℕ → ℕ) (e : ExprContext) (σ : St) (a b : ℕ) (k : K4) → Is4 Γ s m H e σ k → Is4 Γ s m H (with-jumps a b e) σ k
 is4-jumps Γ s m H e σ a b (kc nil) h = h
 is4-jumps Γ s m H e σ a b (kc (truth true)) h = h
 is4-jumps Γ s m H e σ a b (kc (truth false)) h = h
@@ -160,7 +160,7 @@ sim-not {Γ = Γ} {f = f} p h d = ends-then (sim-dv p h d) (λ e₁ s₁ m₁ x.
     next = not-nxt (q .de .k4) (q .st)
 
     ended : (e₂ : ExprContext) (s₂ : State) (m₂ : Buffers) → SimD Γ s₂ m₂ e₂ Np →
-        Ends ((change-words (λ code. remove-values (length code) code (e₂ .t)) >> (change-words (λ code. remove-values (length code) code (e₂ .f)) >> return (jumps (e₂ .f) (e₂ .t) e₂))) s₂ m₂) (λ e′ s′ m′. SimD Γ s′ m′ e′ (lift4 (codeNot q)))
+        Ends ((change-words (λ code. remove-values (length code) code (e₂ .t)) >> (change-words (λ code. remove-values (length code) code (e₂ .f)) >> return (with-jumps (e₂ .f) (e₂ .t) e₂))) s₂ m₂) (λ e′ s′ m′. SimD Γ s′ m′ e′ (lift4 (codeNot q)))
     ended e₂ s₂ m₂ y = gives _ s₂ _ (two-strips (e₂ .t) (e₂ .f) _ s₂ m₂) (record {
       heads = H;
       is = is4-jumps Γ s₂ _ H e₂ _ (e₂ .f) (e₂ .t) (notK (q .de .k4) (q .st .free)) (listed (is4-strip Γ s₂ (stripped H (p .de .tl) m₂) H e₂ (strip (p .de .tl) τ) (p .de .fl) (strip-nxt (omega (arith, next, k .new .fl-old))) (notK (q .de .k4) (q .st .free)) (is4-strip Γ s₂ m₂ H e₂ τ (p .de .tl) (omega (arith, next, k .new .tl-old)) (notK (q .de .k4) (q .st .free)) (y .is))));

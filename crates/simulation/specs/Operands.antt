@@ -16,7 +16,7 @@ use Rattle.model.specs.declared.ExprKind.{ExprKind}
 use Rattle.model.specs.declared.ExprKind.the-variants as kind
 use Rattle.model.specs.declared.ExprContext.{ExprContext}
 use Rattle.model.specs.declared.State.{State}
-use Rattle.model.specs.Descriptor.{is, isKind, tagOf, has-jumps}
+use Rattle.model.specs.Descriptor.{with-kind, isKind, tagOf, has-jumps}
 use Rattle.model.specs.Steps.{Buffers, done, andThen, return}
 use Rattle.model.specs.Emission.{add-constant}
 use Rattle.model.specs.Discharge.{discharge-vars, discharge-kind, exp2anyreg, exp2val, small, near, rk-kind, exp2rk}
@@ -71,7 +71,7 @@ module _ (e : ExprContext) (s : State) (m : Buffers) (k : e .kind ≡ kind.K) (t
 
   near-k : rk-kind (e .kind) e s m ≡ done e s m
   unfolding rk-kind near
-  near-k = ap (λ z. rk-kind z e s m) k ∙ chosen (leb (e .info) maxIndexRk) (return (is kind.K (e .info) e)) (exp2anyreg e) s m ∙ rw (le-leb (e .info) maxIndexRk l) (ap (λ z. done (is z (e .info) e) s m) (sym k))
+  near-k = ap (λ z. rk-kind z e s m) k ∙ chosen (leb (e .info) maxIndexRk) (return (with-kind kind.K (e .info) e)) (exp2anyreg e) s m ∙ rw (le-leb (e .info) maxIndexRk l) (ap (λ z. done (with-kind z (e .info) e) s m) (sym k))
 
   pub constant-stays : exp2rk e s m ≡ done e s m
   unfolding exp2rk exp2val
@@ -103,7 +103,7 @@ module _ (Γ : Env) (s : State) (m : Buffers) (e : ExprContext) (f : ℕ) (σ : 
 
   -- a constant with its index
   named : {s′ : State} {m′ : Buffers} {H : ℕ → ℕ} (c : Constant) (i : ℕ) (τ : St) → e .t ≡ 0 → e .f ≡ 0 → i ≡ place c (τ .tab) → Listed c (τ .tab) → place c (τ .tab) ≤ maxIndexRk → Sim Γ s′ m′ H (τ .code) (τ .free) (τ .tab) →
-      SimK Γ s′ m′ (is kind.K i e) (record { st = τ; rkv = con (valueOf c) })
+      SimK Γ s′ m′ (with-kind kind.K i e) (record { st = τ; rkv = con (valueOf c) })
   named c i τ t f z l n x = record { is = (refl, (c, (refl, (l, (n, ap (λ j. j + bitRk) z))))); trues = t; falses = f; now = record { heads = _; sim = x } }
 
   -- nil, true and false
@@ -124,7 +124,7 @@ module _ (Γ : Env) (s : State) (m : Buffers) (e : ExprContext) (f : ℕ) (σ : 
       none : (d .heads tl ≡ 0) × (d .heads fl ≡ 0)
       none = no-lists now tl fl n
 
-      go : (b : Bool) → roomy (σ .tab) ≡ b → Ends (pick b (andThen (add-constant [] v s m) (λ i. return (is kind.K i e))) (exp2anyreg e s m)) (λ e′ s′ m′. SimK Γ s′ m′ e′ (smallRk b c (Q (kc c))))
+      go : (b : Bool) → roomy (σ .tab) ≡ b → Ends (pick b (andThen (add-constant [] v s m) (λ i. return (with-kind kind.K i e))) (exp2anyreg e s m)) (λ e′ s′ m′. SimK Γ s′ m′ e′ (smallRk b c (Q (kc c))))
       go true r = ends-then (sim-add now [] v sh) (λ i s′ m′ p. gives _ s′ m′ refl
           (named c i (addK c σ) (d .trues ∙ none .0) (d .falses ∙ none .1) (p .0 ∙ sym (place-include c (σ .tab))) (listed-include c (σ .tab)) (roomy-place c (σ .tab) r) (p .1 .1 .1)))
       go false r = ends-map (sim-any₄ (Q (kc c)) h d) (λ e′ s′ m′ x. as-rk (anyreg (Q (kc c))) x)
@@ -132,7 +132,7 @@ module _ (Γ : Env) (s : State) (m : Buffers) (e : ExprContext) (f : ℕ) (σ : 
   -- a text, which is listed
   rk-text : (x : List ℕ) → Goal (kc (text x))
   unfolding rk-kind near rkK rkC
-  rk-text x h d n = rw (rk-at kind.K e s m (d .is .0 .0), chosen (leb (e .info) maxIndexRk) (return (is kind.K (e .info) e)) (exp2anyreg e) s m, near-is now (e .info) (text x) (d .is .0 .1 .0)) (go (isNear (text x) (σ .tab)) refl)
+  rk-text x h d n = rw (rk-at kind.K e s m (d .is .0 .0), chosen (leb (e .info) maxIndexRk) (return (with-kind kind.K (e .info) e)) (exp2anyreg e) s m, near-is now (e .info) (text x) (d .is .0 .1 .0)) (go (isNear (text x) (σ .tab)) refl)
     where
       now : Sim Γ s m (d .heads) (σ .code) (σ .free) (σ .tab)
       now = d .is .1
@@ -140,7 +140,7 @@ module _ (Γ : Env) (s : State) (m : Buffers) (e : ExprContext) (f : ℕ) (σ : 
       none : (d .heads tl ≡ 0) × (d .heads fl ≡ 0)
       none = no-lists now tl fl n
 
-      go : (b : Bool) → isNear (text x) (σ .tab) ≡ b → Ends (pick b (return (is kind.K (e .info) e) s m) (exp2anyreg e s m)) (λ e′ s′ m′. SimK Γ s′ m′ e′ (conRk b (text x) (Q (kc (text x)))))
+      go : (b : Bool) → isNear (text x) (σ .tab) ≡ b → Ends (pick b (return (with-kind kind.K (e .info) e) s m) (exp2anyreg e s m)) (λ e′ s′ m′. SimK Γ s′ m′ e′ (conRk b (text x) (Q (kc (text x)))))
       go true r = gives _ s m refl (named (text x) (e .info) σ (d .trues ∙ none .0) (d .falses ∙ none .1) (d .is .0 .1 .0) (d .is .0 .1 .1) (near-place (text x) (σ .tab) r) now)
       go false r = ends-map (sim-any₄ (Q (kc (text x))) h d) (λ e′ s′ m′ y. as-rk (anyreg (Q (kc (text x)))) y)
 
@@ -148,7 +148,7 @@ module _ (Γ : Env) (s : State) (m : Buffers) (e : ExprContext) (f : ℕ) (σ : 
   rk-number : Goal (kc (number (e .bits)))
   unfolding rk-kind near rkK rkC
   rk-number h d n = rw (rk-at kind.KNum e s m (d .is .0 .0)) (ends-then (sim-add now [] (val.Number (e .number) (e .bits)) tt) (λ i s′ m′ p.
-      rw (chosen (leb i maxIndexRk) (return (is kind.K i e)) (exp2anyreg e) s′ m′, near-is now i c (p .0)) (go i s′ m′ p (isNear c (σ .tab)) refl)))
+      rw (chosen (leb i maxIndexRk) (return (with-kind kind.K i e)) (exp2anyreg e) s′ m′, near-is now i c (p .0)) (go i s′ m′ p (isNear c (σ .tab)) refl)))
     where
       c : Constant
       c = number (e .bits)
@@ -163,7 +163,7 @@ module _ (Γ : Env) (s : State) (m : Buffers) (e : ExprContext) (f : ℕ) (σ : 
       none = no-lists now tl fl n
 
       go : (i : ℕ) (s′ : State) (m′ : Buffers) → (i ≡ place c (σ .tab)) × ((s′ .frame ≡ s .frame) × ((m′ .code ≡ m .code) × Sim Γ s′ m′ (d .heads) (σ .code) (σ .free) (include c (σ .tab)))) → (b : Bool) → isNear c (σ .tab) ≡ b →
-          Ends (pick b (return (is kind.K i e) s′ m′) (exp2anyreg e s′ m′)) (λ e′ s″ m″. SimK Γ s″ m″ e′ (conRk b c q))
+          Ends (pick b (return (with-kind kind.K i e) s′ m′) (exp2anyreg e s′ m′)) (λ e′ s″ m″. SimK Γ s″ m″ e′ (conRk b c q))
       go i s′ m′ p true r = gives _ s′ m′ refl (named c i (addK c σ) (d .trues ∙ none .0) (d .falses ∙ none .1) (p .0 ∙ sym (place-include c (σ .tab))) (listed-include c (σ .tab)) (rw (place-include c (σ .tab)) (near-place c (σ .tab) r)) (p .1 .1 .1))
       go i s′ m′ p false r = ends-map
           (sim-any₄ q (record { own = h .own; new = record { on = record { up = h .new .on .up; old = h .new .on .old }; tl-new = h .new .tl-new; tl-old = h .new .tl-old; fl-new = h .new .fl-new; fl-old = h .new .fl-old }; ok = tt; differ = h .differ; some = h .some; locals = h .locals })

@@ -9,7 +9,7 @@ use Rattle.constants.specs.Entry.{nil, truth, number, text}
 use Rattle.model.specs.declared.ExprKind.the-variants as kind
 use Rattle.model.specs.declared.ExprContext.{ExprContext}
 use Rattle.model.specs.declared.State.{State}
-use Rattle.model.specs.Descriptor.{is, jumps, has-jumps}
+use Rattle.model.specs.Descriptor.{with-kind, with-jumps, has-jumps}
 use Rattle.model.specs.Steps.{Buffers, Result, done, refused, Step, andThen, _>>=_, _>>_, return, when, skip}
 use Rattle.model.specs.Emission.{with-free, alloc-reg}
 use Rattle.model.specs.Discharge.{free-expr, load-kind, discharge2reg, join-jump, settle as settle-jumps, exp2reg, exp2nextreg}
@@ -38,7 +38,7 @@ then-assoc (done a s m) f g = refl
 then-assoc (refused k m) f g = refl
 
 abbrev ends-in : ℕ → ExprContext → Step ExprContext
-ends-in r e = when (has-jumps e) (settle-jumps e r) >> return (is kind.NonReloc r (jumps 0 0 e))
+ends-in r e = when (has-jumps e) (settle-jumps e r) >> return (with-kind kind.NonReloc r (with-jumps 0 0 e))
 
 exp2reg-is : (k : K4) (e : ExprContext) (r : ℕ) (s : State) (m : Buffers) → e .kind ≡ kindOf k → exp2reg e r s m ≡ andThen (loads k e r s m) (ends-in r)
 unfolding exp2reg discharge2reg
@@ -72,7 +72,7 @@ module _ (Γ : Env) (s : State) (m : Buffers) (H : ℕ → ℕ) (e : ExprContext
       nx : τ .nxt ≡ σ .nxt
       nx = d2r-nxt k tl r σ
 
-      go : (b v : Bool) → hit true tl fl (τ .code) ≡ v → Ends (andThen (pick b (settle-jumps e₂ r s₂ m₂) (skip s₂ m₂)) (λ _. return (is kind.NonReloc r (jumps 0 0 e₂)))) (λ e′ s′ m′. SimR Γ s′ m′ e′ (record { st = settle b v (isCmp k) (τ .nxt) D r τ; rgn = r }))
+      go : (b v : Bool) → hit true tl fl (τ .code) ≡ v → Ends (andThen (pick b (settle-jumps e₂ r s₂ m₂) (skip s₂ m₂)) (λ _. return (with-kind kind.NonReloc r (with-jumps 0 0 e₂)))) (λ e′ s′ m′. SimR Γ s′ m′ e′ (record { st = settle b v (isCmp k) (τ .nxt) D r τ; rgn = r }))
       go false v z = gives _ s₂ m₂ (then-done tt s₂ m₂ _) (record { kind = refl; info = refl; below = rw (h .frame) below; trues = refl; falses = refl; now = record { heads = h .heads; sim = h .sim } })
       go true v z = ends-then
           (sim-settle (h .sim) e₂ (τ .nxt) tl fl (under-list (h .sim) (σ .nxt) (τ .nxt) (omega (arith, nx)) (d2r-u (σ .nxt) (omega arith) k tl r σ lt old)) (h .trues) (h .falses) (omega (arith, nx)) nt nf o (λ y. omega (arith, nx)) (λ y. omega (arith, nx)) (λ y. tf (sym y)) r (rw (h .frame) below))

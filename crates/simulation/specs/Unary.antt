@@ -20,7 +20,7 @@ use Rattle.ast.specs.declared.UnOp.the-variants as un
 use Rattle.model.specs.declared.ExprKind.the-variants as kind
 use Rattle.model.specs.declared.ExprContext.{ExprContext}
 use Rattle.model.specs.declared.State.{State}
-use Rattle.model.specs.Descriptor.{is, is-numeral, newOf}
+use Rattle.model.specs.Descriptor.{with-kind, is-numeral, newOf}
 use Rattle.model.specs.Steps.{Buffers, done, _>>=_, _>>_, return}
 use Rattle.model.specs.Emission.{with-free, emit}
 use Rattle.model.specs.Discharge.{free-expr, rk}
@@ -69,7 +69,7 @@ module _ {Γ : Env} {s : State} {m : Buffers} {e : ExprContext} {f : ℕ} (p : P
 
   pub sim-unary : (o : OpCode) (x : ℕ → Ex) → ((t : List Constant) (F w r : ℕ) → r < F → w ≡ abcOf o 0 r 0 → CodesX t F w 0 (x r)) → Ends (code-unary o e s m) (λ e′ s′ m′. SimD Γ s′ m′ e′ (fresh (kd (kx (x (a .rgn)))) f (flush (a .st))))
   unfolding code-unary flush
-  sim-unary o x codes = ends-then (sim-any p h d) (λ e₁ s₁ m₁ y. rw (free-register a (h .locals) y takes, then-done {A = Unit {0}} tt (with-free f s₁) m₁ (λ _. emit (abcOf o 0 (e₁ .info) 0) >>= (λ pc. return (is kind.Relocable pc e₁))), y .info)
+  sim-unary o x codes = ends-then (sim-any p h d) (λ e₁ s₁ m₁ y. rw (free-register a (h .locals) y takes, then-done {A = Unit {0}} tt (with-free f s₁) m₁ (λ _. emit (abcOf o 0 (e₁ .info) 0) >>= (λ pc. return (with-kind kind.Relocable pc e₁))), y .info)
       (ends-then (sim-emit (sim-fewer (y .now .sim) f fewer) (setw 0 (x (a .rgn))) (abcOf o 0 (a .rgn) 0) refl (λ us z. (omega (arith, y .now .sim .two), codes (a .st .tab) (s₁ .frame) _ (a .rgn) (y .below) z)))
       (λ pc s₂ m₂ q. gives _ s₂ m₂ refl (fresh-held (setH 0 0 (y .now .heads)) (pl (setw 0 (x (a .rgn)))) _ (kd (kx (x (a .rgn)))) f f (flush (a .st)) tt under (y .trues) (y .falses) (q .1 .1) (refl, (q .0 ∙ sym (size-edit (here (a .st .code)) (a .st .code)), (rw (same-refl 0) refl, q .1 .1)))))))
     where
