@@ -8,7 +8,8 @@ use native.Mathlib.Nat.{zero-add}
 use lib.ListN.{length}
 use lib.Dec.{eqb}
 use borrow.Author.Tests.{le-leb, lt-leb, eq-eqb, ne-eqb}
-use Rattle.buffers.specs.Pad.{zeros, pad, pad-none, sets-pad}
+use Rattle.buffers.specs.Pad.{zeros, pad}
+use Rattle.buffers.specs.Laws.{pad-none, sets-pad}
 use Rattle.refusals.specs.declared.Refusal.{Refusal}
 use Rattle.refusals.specs.declared.Refusal.the-variants as refusal
 use Rattle.chunk.specs.Ast.{Exprs, spansOf, placesOf}

@@ -8,7 +8,8 @@ use lib.ListN.{length}
 use lib.Dec.{eqb, leb}
 use Rattle.ast.specs.Kinds.{kindOf, mapOf}
 use Rattle.ast.specs.Operators.{binOpOf, unOpOf}
-use Rattle.cursor.specs.Fields.{byteAt, lineAt, bitsAt, textAt, endOf, byte-inside, line-inside, bits-inside, text-inside}
+use Rattle.cursor.specs.Fields.{byteAt, lineAt, bitsAt, textAt, endOf}
+use Rattle.cursor.specs.Inside.{byte-inside, line-inside, bits-inside, text-inside}
 use Rattle.nodes.specs.Nodes.{fieldsAt, frontAt, withFront, nodeAt}
 use Rattle.nodes.specs.Reads.{on-byte, on-line, on-bits, on-text, on-kind, on-bin, on-un, on-require, on-test}
 use Rattle.chunk.specs.Headers.{namesAt, skipped, withSkipped, formulasAt, headerAt}
@@ -113,11 +114,11 @@ module _ (s : List ℕ) where
       on-byte (OnHeader HeaderIn) _ tt (byteAt s 0) _ λ m e.
       on-require (OnHeader HeaderIn) _ tt (leb m 3) _
       (on-test (OnHeader HeaderIn) (eqb (m % 2) 0) _ _
-      (formulas-in 0 1 (leb 2 m) 1)
+      (formulas-in 0 1 (eqb (m / 2 % 2) 1) 1)
       (on-byte (OnHeader HeaderIn) _ tt (byteAt s 1) _ λ n g.
       on-require (OnHeader HeaderIn) _ tt (leb n 200) _
       (on-skipped (OnHeader HeaderIn) _ tt (skipped (namesAt s n 2)) _ λ p.
-      formulas-in n 2 (leb 2 m) p)))
+      formulas-in n 2 (eqb (m / 2 % 2) 1) p)))
 
   pub header-in : (h : Header) → headerAt s ≡ header.Header h → h .next ≤ length s
   header-in h e = rw e at header-all

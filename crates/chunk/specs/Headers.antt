@@ -1,7 +1,5 @@
 -- The header of a chunk and its refusals in the order in which its bytes are met (document 01, "The chunk"). Assumes nothing.
-use Prim.Native.Nat.{ℕ, zero, suc, _+_, _-_, _%_, _<_, _≤_}
-use mathlib.Core.Path.{_≡_, refl}
-use native.Mathlib.Omega.{arith}
+use Prim.Native.Nat.{ℕ, zero, suc, _+_, _/_, _%_}
 use mathlib.Core.List.{List, [], _∷_}
 use mathlib.Core.Bool.{Bool, true, false}
 use lib.Dec.{eqb, leb}
@@ -9,7 +7,6 @@ use Rattle.refusals.specs.declared.Refusal.the-variants as refusal
 use Rattle.cursor.specs.Fields.{byteAt, textAt, endOf}
 use Rattle.nodes.specs.Nodes.{withByte, withText, require}
 use Rattle.cursor.specs.declared.Text.{Text}
-use Rattle.cursor.specs.declared.TextRead.the-variants as text
 use Rattle.chunk.specs.declared.header.Header.{Header}
 use Rattle.chunk.specs.declared.header.HeaderRead.{HeaderRead}
 use Rattle.chunk.specs.declared.header.HeaderRead.the-variants as read
@@ -55,30 +52,9 @@ headerAt s =
     withByte (byteAt s 0) (read.Refused refusal.Missing) λ m.
     require (leb m 3) (read.Refused refusal.Map) λ _.
     elim (eqb (m % 2) 0) [
-      | true ↦ formulasAt s 0 1 (leb 2 m) 1
+      | true ↦ formulasAt s 0 1 (eqb (m / 2 % 2) 1) 1
       | false ↦ withByte (byteAt s 1) (read.Refused refusal.Missing) λ n.
           require (leb n maxLocals) (read.Refused refusal.Locals) λ _.
           withSkipped (skipped (namesAt s n 2)) (read.Refused refusal.Missing) λ at.
-          formulasAt s n 2 (leb 2 m) at
+          formulasAt s n 2 (eqb (m / 2 % 2) 1) at
     ]
-
--- a turn of the loop over the names, at a count that the code lowers by one
-module _ (s : List ℕ) (at : ℕ) where
-  skip-before : (t : Text) (r : Names) → skipped (before t r) ≡ skipped r
-  skip-before t (names ts n) = refl
-  skip-before t missing = refl
-
-  pub skip-more : (k : ℕ) (t : Text) → 0 < k → textAt s at ≡ text.Text t → skipped (namesAt s k at) ≡ skipped (namesAt s (k - 1) (endOf t))
-  unfolding namesAt
-  skip-more zero t h e = absurd (omega arith)
-  skip-more (suc k) t h e = let q : suc k - 1 ≡ k = omega arith in rw q (rw e (skip-before t (namesAt s k (endOf t))))
-
-  pub skip-cut : (k : ℕ) → 0 < k → textAt s at ≡ text.NoText → skipped (namesAt s k at) ≡ skip.Missing
-  unfolding namesAt
-  skip-cut zero h e = absurd (omega arith)
-  skip-cut (suc k) h e = rw e
-
-  pub skip-end : (k : ℕ) → k ≤ 0 → skipped (namesAt s k at) ≡ skip.To at
-  unfolding namesAt
-  skip-end zero h = refl
-  skip-end (suc k) h = absurd (omega arith)

@@ -1,4 +1,5 @@
 pub mod Headers
+pub mod Skipping
 pub mod Ast
 pub mod Form
 pub mod Walks

@@ -4,7 +4,8 @@ use mathlib.Core.List.{List, [], _∷_}
 use mathlib.Core.Path.{_≡_, sym, ap, _∙_, subst}
 use lib.ListN.{set}
 use Rattle.refusals.specs.declared.Refusal.{Refusal}
-use Rattle.buffers.specs.Pad.{zeros, pad, pad-none, set-pad}
+use Rattle.buffers.specs.Pad.{zeros, pad}
+use Rattle.buffers.specs.Laws.{pad-none, set-pad}
 use Rattle.model.specs.declared.Counts.{Counts}
 use Rattle.model.specs.declared.Lowered.{Lowered}
 use Rattle.model.specs.declared.Lowered.the-variants as answer

@@ -1,5 +1,5 @@
 -- What is known of an accepted chunk: its header, its names, as many as it says, and its formulas, parsed from behind the header. Read off `formOf` and `headerAt` case by case.
-use Prim.Native.Nat.{ℕ, zero, suc, _%_}
+use Prim.Native.Nat.{ℕ, zero, suc, _/_, _%_}
 use mathlib.Core.Bool.{Bool, true, false}
 use mathlib.Core.Path.{_≡_, refl, ap, _∙_, subst}
 use mathlib.Core.List.{List}
@@ -92,9 +92,9 @@ module _ (s : List ℕ) where
   unfolding headerAt
   named = on-byte Named _ tt (byteAt s 0) _ (λ m f. on-require Named _ tt (leb m 3) _ (go m (eqb (m % 2) 0)))
     where
-      go : (m : ℕ) (t : Bool) → Named (elim t as (λ (_ : Bool). HeaderRead) [ true ↦ formulasAt s 0 1 (leb 2 m) 1 | false ↦ withByte (byteAt s 1) (header.Refused refusal.Missing) (λ n. require (leb n maxLocals) (header.Refused refusal.Locals) (λ _. withSkipped (skipped (namesAt s n 2)) (header.Refused refusal.Missing) (λ at. formulasAt s n 2 (leb 2 m) at))) ])
-      go m true = named-formulas 0 1 (leb 2 m) 1 no-names
-      go m false = on-byte Named _ tt (byteAt s 1) _ (λ n f. on-require Named _ tt (leb n maxLocals) _ (named-skipped n (skipped (namesAt s n 2)) refusal.Missing (leb 2 m) refl))
+      go : (m : ℕ) (t : Bool) → Named (elim t as (λ (_ : Bool). HeaderRead) [ true ↦ formulasAt s 0 1 (eqb (m / 2 % 2) 1) 1 | false ↦ withByte (byteAt s 1) (header.Refused refusal.Missing) (λ n. require (leb n maxLocals) (header.Refused refusal.Locals) (λ _. withSkipped (skipped (namesAt s n 2)) (header.Refused refusal.Missing) (λ at. formulasAt s n 2 (eqb (m / 2 % 2) 1) at))) ])
+      go m true = named-formulas 0 1 (eqb (m / 2 % 2) 1) 1 no-names
+      go m false = on-byte Named _ tt (byteAt s 1) _ (λ n f. on-require Named _ tt (leb n maxLocals) _ (named-skipped n (skipped (namesAt s n 2)) refusal.Missing (eqb (m / 2 % 2) 1) refl))
 
   pub header-names : (h : Header) → headerAt s ≡ header.Header h → length (namesOf (namesAt s (h .locals) (h .names))) ≡ h .locals
   header-names h e = subst Named e named

@@ -13,7 +13,8 @@ use mir.Syntax.{w32, w64}
 use mir.Val.{Fits, SFits, toZ, ofZ}
 use mir.ValLaws.{toZ-pos, toZ-ofZ}
 use Rattle.instructions.specs.Limits.{bxPlace, bxSize, maxArgSbx}
-use Rattle.instructions.specs.Field.{getAt, get-lt}
+use Rattle.instructions.specs.Field.{getAt}
+use Rattle.instructions.specs.Laws.{get-lt}
 use Rattle.instructions.specs.Word.{bxOf, sbxOf, excess}
 use Rattle.model.specs.Jumps.{word, behind}
 use Rattle.jumps.specs.Offset.{excess-modulo}

@@ -8,7 +8,8 @@ use lib.ListN.{length, take, drop, set, getD, length-append, length-take, drop-o
 use lib.Seq.{drop-cons, getD-take}
 use lib.Dec.{ltb, leb}
 use borrow.Author.Tests.{lt-ltb, le-ltb, ltb-true, ltb-false, leb-true, leb-false}
-use Rattle.buffers.specs.Pad.{zeros, pad, length-pad, pad-none, set-pad}
+use Rattle.buffers.specs.Pad.{zeros, pad}
+use Rattle.buffers.specs.Laws.{length-pad, pad-none, set-pad}
 use Rattle.listing.specs.declared.Pen.{Pen}
 use Rattle.listing.specs.declared.Listed.the-variants as listed
 use Rattle.listing.specs.Listing.{decimal, hex, glyph, refusal-line, word-lines, constant-lines, word-line, constant-line}

@@ -134,8 +134,8 @@ module _ (s : List ℕ) where
   low-header =
       on-byte LowHeader _ (omega arith) (byteAt s 0) _ λ m e.
       on-require LowHeader _ (omega arith) (leb m 3) _
-      (on-test LowHeader (eqb (m % 2) 0) _ _ (low-formulas 0 1 (leb 2 m) 1)
-      (on-byte LowHeader _ (omega arith) (byteAt s 1) _ λ n g. on-require LowHeader _ (omega arith) (leb n maxLocals) _ (low-names n (leb 2 m) (skipped (namesAt s n 2)))))
+      (on-test LowHeader (eqb (m % 2) 0) _ _ (low-formulas 0 1 (eqb (m / 2 % 2) 1) 1)
+      (on-byte LowHeader _ (omega arith) (byteAt s 1) _ λ n g. on-require LowHeader _ (omega arith) (leb n maxLocals) _ (low-names n (eqb (m / 2 % 2) 1) (skipped (namesAt s n 2)))))
 
   low-ended : (h : Header) (fs : Exprs) (at : ℕ) → LowFormed (ended s h fs at)
   unfolding ended

@@ -8,7 +8,8 @@ use native.Mathlib.Omega.{arith}
 use lib.ListN.{length, getD, take}
 use Rattle.refusals.specs.declared.Refusal.{Refusal}
 use Rattle.refusals.specs.declared.Refusal.the-variants as refusal
-use Rattle.buffers.specs.Pad.{zeros, pad-fits}
+use Rattle.buffers.specs.Pad.{zeros}
+use Rattle.buffers.specs.Laws.{pad-fits}
 use Rattle.chunk.specs.Ast.{Chunk, spansOf, placesOf}
 use Rattle.chunk.specs.Form.{formed, formOf}
 use Rattle.model.specs.declared.State.{State}

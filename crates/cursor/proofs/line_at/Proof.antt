@@ -1,7 +1,8 @@
 -- By whether the bytes are there.
 use mathlib.Core.Path.{_∙_}
 use native.Mathlib.Omega.{arith}
-use Rattle.cursor.specs.Fields.{lineAt, has-true}
+use Rattle.cursor.specs.Fields.{lineAt}
+use Rattle.cursor.specs.Inside.{has-true}
 use borrow.Author.Needs.{needs}
 use Rattle.cursor.proofs.line_at.Statement.{statement}
 use Rattle.cursor.proofs.line_at.Tie as tie

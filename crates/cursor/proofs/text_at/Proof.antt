@@ -1,7 +1,8 @@
 -- By whether the length and then the bytes are there.
 use mathlib.Core.Path.{_∙_}
 use native.Mathlib.Omega.{arith}
-use Rattle.cursor.specs.Fields.{textAt, has-true}
+use Rattle.cursor.specs.Fields.{textAt}
+use Rattle.cursor.specs.Inside.{has-true}
 use borrow.Author.Needs.{needs}
 use Rattle.cursor.proofs.text_at.Statement.{statement}
 use Rattle.cursor.proofs.text_at.Tie as tie

@@ -3,7 +3,8 @@ use borrow.Author.Needs.{needs}
 use Prim.Native.Nat.{ℕ, _+_, _*_, _/_, _%_, _<_, _≤_, _^_}
 use native.Mathlib.Omega.{arith}
 use native.Mathlib.Nat.{le-mul-of-pos-right}
-use Rattle.instructions.specs.Field.{setAt, set-lt}
+use Rattle.instructions.specs.Field.{setAt}
+use Rattle.instructions.specs.Laws.{set-lt}
 use Rattle.instructions.proofs.with_field.Statement.{statement}
 use Rattle.instructions.proofs.with_field.Tie as tie
 

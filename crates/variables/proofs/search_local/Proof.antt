@@ -5,7 +5,8 @@ use borrow.Author.Needs.{needs}
 use mathlib.Core.Path.{_≡_, refl, sym, _∙_}
 use Prim.Native.Nat.{_-_, _+_}
 use native.Mathlib.Omega.{arith}
-use Rattle.cursor.specs.Fields.{bytesOf, text-inside}
+use Rattle.cursor.specs.Fields.{bytesOf}
+use Rattle.cursor.specs.Inside.{text-inside}
 use Rattle.chunk.specs.Headers.{namesAt}
 use Rattle.variables.proofs.Seeking.{sought, sought-all, sought-more, sought-cut, sought-end, decode-none, decode-some}
 use Rattle.variables.proofs.search_local.Statement.{statement}

@@ -1,7 +1,7 @@
 -- By whether the count byte is there.
 use mathlib.Core.Path.{_∙_}
 use native.Mathlib.Omega.{arith}
-use Rattle.cursor.specs.Fields.{byte-inside}
+use Rattle.cursor.specs.Inside.{byte-inside}
 use Rattle.chunk.specs.Headers.{formulasAt}
 use borrow.Author.Needs.{needs}
 use Rattle.chunk.proofs.header.read_formulas.Statement.{statement}

@@ -1,6 +1,7 @@
 -- Each way out is one way through `headerAt`.
 use borrow.Author.Tests.{le-leb, lt-leb, lt-ltb, le-ltb, eq-eqb, ne-eqb}
 use Rattle.chunk.specs.Headers.{headerAt}
+use Rattle.chunk.specs.Skipping.{varargs-bit}
 use borrow.Author.Needs.{needs}
 use Rattle.chunk.proofs.header.read_header.Statement.{statement}
 use Rattle.chunk.proofs.header.read_header.Tie as tie
@@ -32,7 +33,7 @@ unfolding headerAt
 returns-3 c =
     let p4 = c .before .before .before .before in
     let p6 = p4 .before .before in
-    simp (headerAt, (p6 .read-byte .ensures), (p4 .map .given .1), le-leb _ _ (c .before .before .if1 .left), eq-eqb _ _ (c .before .if2 .taken), (c .read-formulas .ensures))
+    simp (headerAt, (p6 .read-byte .ensures), (p4 .map .given .1), le-leb _ _ (c .before .before .if1 .left), varargs-bit _ (c .before .before .if1 .left), eq-eqb _ _ (c .before .if2 .taken), (c .read-formulas .ensures))
 
 read-byte-requires-2 : tie.Need-read-byte-requires-2
 read-byte-requires-2 c κs = search needs
@@ -100,7 +101,7 @@ returns-7 c =
     let p11 = p10 .before in
     let p13 = p11 .before .before in
     let p15 = p13 .before .before in
-    simp (headerAt, (p15 .read-byte .ensures), (p13 .map .given .1), le-leb _ _ (p11 .if1 .left), ne-eqb _ _ (p10 .if2 .left), (p9 .read-byte2 .ensures), (p7 .count .given .1), le-leb _ _ (p5 .if3 .left), (p4 .skip-names .ensures), (c .before .before .end .given .1), (c .read-formulas2 .ensures))
+    simp (headerAt, (p15 .read-byte .ensures), (p13 .map .given .1), le-leb _ _ (p11 .if1 .left), ne-eqb _ _ (p10 .if2 .left), (p9 .read-byte2 .ensures), (p7 .count .given .1), le-leb _ _ (p5 .if3 .left), (p4 .skip-names .ensures), varargs-bit _ (p11 .if1 .left), (c .before .before .end .given .1), (c .read-formulas2 .ensures))
 
 pub read-header-spec : {M : Type 1} → statement M
 read-header-spec =

@@ -2,8 +2,9 @@
 use borrow.Author.Needs.{needs}
 use mathlib.Core.Path.{_≡_, refl, _∙_}
 use native.Mathlib.Omega.{arith}
-use Rattle.cursor.specs.Fields.{text-inside}
-use Rattle.chunk.specs.Headers.{namesAt, skipped, skip-more, skip-cut, skip-end}
+use Rattle.cursor.specs.Inside.{text-inside}
+use Rattle.chunk.specs.Headers.{namesAt, skipped}
+use Rattle.chunk.specs.Skipping.{skip-more, skip-cut, skip-end}
 use Rattle.chunk.proofs.header.skip_names.Statement.{statement}
 use Rattle.chunk.proofs.header.skip_names.Tie as tie
 

@@ -3,7 +3,7 @@ use borrow.Author.Needs.{needs}
 use Prim.Native.Nat.{_<_}
 use native.Mathlib.Omega.{arith}
 use Rattle.instructions.specs.Limits.{bxPlace, bxSize}
-use Rattle.instructions.specs.Field.{get-lt}
+use Rattle.instructions.specs.Laws.{get-lt}
 use Rattle.instructions.specs.Word.{sbxOf}
 use Rattle.instructions.proofs.Signed.{less-fits, less-is}
 use Rattle.instructions.proofs.Instruction.sbx.Statement.{statement}

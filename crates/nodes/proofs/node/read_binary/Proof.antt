@@ -1,7 +1,7 @@
 -- The operator of `fieldsAt` or the refusal on its way; it lies in the chunk, so the place behind it fits.
 use mathlib.Core.Path.{_∙_}
 use native.Mathlib.Omega.{arith}
-use Rattle.cursor.specs.Fields.{byte-inside}
+use Rattle.cursor.specs.Inside.{byte-inside}
 use Rattle.nodes.specs.Nodes.{fieldsAt}
 use borrow.Author.Needs.{needs}
 use Rattle.nodes.proofs.node.read_binary.Statement.{statement}

@@ -2,7 +2,7 @@
 use mathlib.Core.Path.{_∙_}
 use native.Mathlib.Omega.{arith}
 use borrow.Author.Tests.{eq-eqb, ne-eqb}
-use Rattle.cursor.specs.Fields.{byte-inside, line-inside}
+use Rattle.cursor.specs.Inside.{byte-inside, line-inside}
 use borrow.Author.Needs.{needs}
 use Rattle.nodes.proofs.node.read_front.Statement.{statement}
 use Rattle.nodes.proofs.node.read_front.Tie as tie

@@ -1,7 +1,7 @@
 -- The text and the count of `fieldsAt` or the refusal on their way; they lie in the chunk, so the places behind them fit.
 use mathlib.Core.Path.{_∙_}
 use native.Mathlib.Omega.{arith}
-use Rattle.cursor.specs.Fields.{byte-inside, text-inside}
+use Rattle.cursor.specs.Inside.{byte-inside, text-inside}
 use Rattle.nodes.specs.Nodes.{fieldsAt}
 use borrow.Author.Needs.{needs}
 use Rattle.nodes.proofs.node.read_method_call.Statement.{statement}

@@ -1,7 +1,7 @@
 -- The count or none, and one child more than it; it lies in the chunk, so the place behind it fits.
 use mathlib.Core.Path.{_∙_}
 use native.Mathlib.Omega.{arith}
-use Rattle.cursor.specs.Fields.{byte-inside}
+use Rattle.cursor.specs.Inside.{byte-inside}
 use borrow.Author.Needs.{needs}
 use Rattle.nodes.proofs.skip.skip_call.Statement.{statement}
 use Rattle.nodes.proofs.skip.skip_call.Tie as tie

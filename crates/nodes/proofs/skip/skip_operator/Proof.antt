@@ -1,7 +1,7 @@
 -- A byte or none; below `known` what is made of it has the extent that was said, from there on it is refused. It lies in the chunk, so the place behind it fits.
 use mathlib.Core.Path.{_∙_, ap}
 use native.Mathlib.Omega.{arith}
-use Rattle.cursor.specs.Fields.{byte-inside}
+use Rattle.cursor.specs.Inside.{byte-inside}
 use Rattle.nodes.specs.Extents.{extentOf}
 use borrow.Author.Needs.{needs}
 use Rattle.nodes.proofs.skip.skip_operator.Statement.{statement}

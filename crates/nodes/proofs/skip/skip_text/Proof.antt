@@ -1,7 +1,7 @@
 -- A text or none, and the head made of it has the children that were said; it lies in the chunk, so the place behind it fits.
 use mathlib.Core.Path.{_∙_}
 use native.Mathlib.Omega.{arith}
-use Rattle.cursor.specs.Fields.{text-inside}
+use Rattle.cursor.specs.Inside.{text-inside}
 use borrow.Author.Needs.{needs}
 use Rattle.nodes.proofs.skip.skip_text.Statement.{statement}
 use Rattle.nodes.proofs.skip.skip_text.Tie as tie
