@@ -25,6 +25,7 @@ use emission::reserve_regs;
 use emission::with_free;
 use folding::Numeral;
 use instructions::Instruction;
+use instructions::NO_REG;
 use jumps::put_word;
 use jumps::word_at;
 use model::Described;
@@ -59,14 +60,14 @@ pub fn set_multret(code: &mut [u32], st: State, e: ExprContext) -> Stepped
     reserve_regs(st, 1)
 }
 
-// The register above one; none lies above 255, which is no register.
+// The register above one; none lies above NO_REG, which is no register.
 fn above(r: usize) -> usize
     ensures { λ s. ⌜ aboveOf r ≡ s ⌝ }
 {
-    if r < 255 {
+    if r < NO_REG {
         return r + 1;
     }
-    255
+    NO_REG
 }
 
 // The `Call` with B = b, on the line that was current before its arguments; then only its own register is taken.

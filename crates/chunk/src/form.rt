@@ -10,6 +10,12 @@ use nodes::skip;
 use nodes::skip::ExtentRead;
 use refusals::Refusal;
 
+// The longest chunk, in bytes (document 01, refusal 1).
+pub const MAX_LENGTH: usize = 1048576;
+
+// The deepest nesting (document 01, refusal 5).
+pub const MAX_NESTING: usize = 200;
+
 // Where a walk has come to: the place, the line of the last node, and how many nodes there were.
 pub struct Walk {
     pub at: usize,
@@ -97,7 +103,7 @@ pub fn check_form(chunk: &[u8], scratch: &mut [u32]) -> Form
     ensures { λ r. ⌜ checked (formOf (now (chunk .entry))) (length (now (scratch .entry))) ≡ out r (now (scratch .exit)) ⌝ }
 {
     buffers::clear_words(scratch);
-    if 1048576 < chunk.len() {
+    if MAX_LENGTH < chunk.len() {
         return Form::Refused(Refusal::TooLong);
     }
     match header::read_header(chunk) {
@@ -107,7 +113,7 @@ pub fn check_form(chunk: &[u8], scratch: &mut [u32]) -> Form
                 line: 1,
                 nodes: 0,
             };
-            match walk_exprs(chunk, scratch, h.varargs, 200, h.formulas, w) {
+            match walk_exprs(chunk, scratch, h.varargs, MAX_NESTING, h.formulas, w) {
                 WalkEnd::Done(v) => {
                     if v.at != chunk.len() {
                         buffers::clear_words(scratch);

@@ -5,6 +5,9 @@ use cursor::ByteRead;
 use cursor::TextRead;
 use refusals::Refusal;
 
+// The most locals (rilua's instructions.rs; document 01, refusal 6).
+pub const LUAI_MAXVARS: u8 = 200;
+
 // How many locals there are and where their names stand, the varargs bit, the number of formulas and the place of the first one.
 pub struct Header {
     pub locals: usize,
@@ -72,7 +75,7 @@ pub fn read_header(chunk: &[u8]) -> HeaderRead
     let ByteRead::Byte(count) = reader::read_byte(chunk, 1) else {
         return HeaderRead::Refused(Refusal::Missing);
     };
-    if 200 < count {
+    if LUAI_MAXVARS < count {
         return HeaderRead::Refused(Refusal::Locals);
     }
     let locals = count as usize;

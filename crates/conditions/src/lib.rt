@@ -21,6 +21,7 @@ use emission::emit_jump;
 use emission::patch_to_here;
 use emission::with_pc;
 use instructions::Instruction;
+use instructions::NO_REG;
 use jumps::concat_jumps;
 use jumps::get_jump_control;
 use jumps::jump_list;
@@ -172,7 +173,7 @@ pub fn jumponcond(
             lines,
             free_expr(s, d),
             OpCode::TestSet,
-            255,
+            NO_REG,
             d.info,
             bit(cond),
         ),

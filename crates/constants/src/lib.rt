@@ -11,6 +11,7 @@ ghost use Rattle.constants.specs.Entry.{truth, number, constantOf, part 
 ghost use Rattle.constants.specs.Fours.{fourOf, FourBytes, inFour, Without};
 ghost use Rattle.constants.specs.Laws.{kindOf};
 ghost use Rattle.constants.specs.Table.{find as findIn, stored, storedText, append as appended, added, out};
+use instructions::MAX_CONSTANTS;
 use refusals::Refusal;
 
 // A constant: nil, a truth value, a number (its double and its bits), or a text by its place in the chunk.
@@ -248,7 +249,7 @@ fn full(kinds: usize, values: usize, count: usize) -> bool
     if values <= count {
         return true;
     }
-    262144 <= count
+    MAX_CONSTANTS <= count
 }
 
 // Whether `n` bytes go behind the first `used` of `size`.

@@ -12,7 +12,11 @@ ghost use Rattle.emission.specs.Parts.{freed-to};
 use constants::Added;
 use constants::Table;
 use constants::Val;
+use instructions::BITRK;
 use instructions::Instruction;
+use instructions::MAX_WORDS;
+use instructions::MAXSTACK;
+use instructions::NO_REG;
 use jumps::concat_jumps;
 use jumps::patch_list_aux;
 use jumps::put_word;
@@ -152,7 +156,7 @@ fn patch_pending(code: &mut [u32], jpc: usize, pc: usize)
     if jpc == 0 {
         return;
     }
-    patch_list_aux(code, jpc, pc, 255, pc);
+    patch_list_aux(code, jpc, pc, NO_REG, pc);
 }
 
 // The pending jumps lead to the word to come.
@@ -174,7 +178,7 @@ fn push(code: &mut [u32], lines: &mut [u32], st: State, w: u32, line: u32) -> Gi
     if lines.len() <= pc {
         return Given::Refused(Refusal::Words);
     }
-    if 131071 <= pc {
+    if MAX_WORDS <= pc {
         return Given::Refused(Refusal::Words);
     }
     code[pc] = w;
@@ -253,7 +257,7 @@ pub fn get_label(st: State) -> State
     ensures { λ r. ⌜ ((m : Buffers) → get-label st m ≡ done (st .pc) r m) ⌝ }
 {
     let pc = st.pc;
-    if 131071 < pc {
+    if MAX_WORDS < pc {
         return st;
     }
     with_label(st, pc + 1)
@@ -359,10 +363,10 @@ pub fn add_constant(
 pub fn check_stack(st: State, n: usize) -> Stepped
     ensures { λ r. ⌜ ((m : Buffers) → check-stack n st m ≡ steppedIs r m) ⌝ }
 {
-    if 250 < n {
+    if MAXSTACK < n {
         return Stepped::Refused(Refusal::Registers);
     }
-    if 250 - n < st.free {
+    if MAXSTACK - n < st.free {
         return Stepped::Refused(Refusal::Registers);
     }
     let top = st.free + n;
@@ -399,7 +403,7 @@ fn freed(active: usize, free: usize, r: usize) -> usize
     if r < active {
         return free;
     }
-    if 256 <= r {
+    if BITRK <= r {
         return free;
     }
     if r + 1 == free {

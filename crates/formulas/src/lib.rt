@@ -7,6 +7,7 @@ ghost use Rattle.model.specs.Steps.{steppedIs, bufs};
 ghost use Rattle.model.specs.Expressions.{compile-expr};
 ghost use Rattle.model.specs.Lowering.{formulas as formulasOf, lower-chunk};
 ghost use Rattle.formulas.specs.Parts.{returning};
+use chunk::form::MAX_NESTING;
 use chunk::header::Header;
 use discharge::exp2nextreg;
 use emission::emit_abc;
@@ -35,7 +36,7 @@ fn formulas(
     let mut s = st;
     let mut rest = n;
     while 0 < rest {
-        let formula = compile_expr(chunk, h, code, lines, kinds, values, pool, s, 200);
+        let formula = compile_expr(chunk, h, code, lines, kinds, values, pool, s, MAX_NESTING);
         match formula {
             Described::Done(t, e) => {
                 let placed = exp2nextreg(code, lines, kinds, values, pool, t, e);

@@ -5,6 +5,34 @@ ghost use Rattle.instructions.specs.Field.{getAt, setAt};
 ghost use Rattle.instructions.specs.Word.{opOf, opcodeOf, aOf, bOf, cOf, bxOf, sbxOf, setAOf, setBOf, setCOf, excess as excessOf, setSbxOf, abcOf, aBxOf, aSbxOf};
 use opcodes::OpCode;
 
+// ---- limits of the word layout and of the machine: all but the last two by their names in instructions.rs (the definitions have them from specs/Limits.antt)
+
+// An RK operand below this is a register, else the constant RK - 256.
+pub const BITRK: usize = 256;
+
+// The last constant that an RK operand can name.
+pub const MAXINDEXRK: usize = BITRK - 1;
+
+// Stands for no register.
+pub const NO_REG: usize = 255;
+
+// The most registers of a frame.
+pub const MAXSTACK: usize = 250;
+
+// The largest Bx.
+pub const MAXARG_BX: usize = 262143;
+
+// sBx is Bx less this.
+pub const MAXARG_SBX: usize = MAXARG_BX / 2;
+
+// The most entries of a constant table, so that Bx can name each (document 01, refusal 11).
+pub const MAX_CONSTANTS: usize = MAXARG_BX + 1;
+
+// The most words of a code, so that every jump fits sBx (document 01, refusal 13).
+pub const MAX_WORDS: usize = MAXARG_SBX;
+
+// ---- words
+
 // The field of `size` values at the place value `place`.
 fn field(x: u32, place: u32, size: u32) -> u32
     requires { ⌜ (0 < place) × (0 < size) ⌝ }

@@ -11,6 +11,8 @@ ghost use Rattle.instructions.specs.Word.{opOf, bOf, cOf, abcOf, excess};
 ghost use Rattle.model.specs.Jumps.{word, jump-list as jumpList, behind as behindOf, get-jump-target, patch-jump, last-jump, concat-jumps, linked, get-jump-control, control as controlOf, keeps-value, need-value, retest as retestOf, patch-test-reg, remove-values, patch-list-aux};
 ghost use Rattle.jumps.specs.Walk.{Fitting, led};
 use instructions::Instruction;
+use instructions::MAX_WORDS;
+use instructions::NO_REG;
 use opcodes::OpCode;
 
 // `get_instruction`: the word at pc.
@@ -185,7 +187,7 @@ fn retest(reg: usize, w: u32) -> u32
     if reg == own {
         return test_only(w);
     }
-    if reg == 255 {
+    if reg == NO_REG {
         return test_only(w);
     }
     i.set_a((reg % 256) as u32).raw
@@ -214,7 +216,7 @@ pub fn remove_values(code: &mut [u32], list: usize)
         if l == 0 {
             return;
         }
-        patch_test_reg(code, l, 255);
+        patch_test_reg(code, l, NO_REG);
         l = get_jump_target(code, l);
         left -= 1;
     }
@@ -252,7 +254,7 @@ pub fn patch_list_aux(code: &mut [u32], list: usize, vtarget: usize, reg: usize,
 pub fn jump_list(pc: usize) -> usize
     ensures { λ r. ⌜ jumpList pc ≡ r ⌝ }
 {
-    if pc < 131071 {
+    if pc < MAX_WORDS {
         return pc + 1;
     }
     0

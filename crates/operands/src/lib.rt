@@ -12,6 +12,8 @@ ghost use Rattle.operands.specs.Laws.{registerOf};
 use ast::BinOp;
 use emission::free_reg;
 use folding::Arith;
+use instructions::BITRK;
+use instructions::MAXINDEXRK;
 use model::ExprContext;
 use model::ExprKind;
 use model::State;
@@ -53,7 +55,7 @@ pub fn is_kind(e: ExprContext, kind: ExprKind) -> bool
 pub fn fits_rk(k: usize) -> bool
     ensures { λ r. ⌜ leb k maxIndexRk ≡ r ⌝ }
 {
-    k <= 255
+    k <= MAXINDEXRK
 }
 
 // The operand that a register or a constant is.
@@ -61,21 +63,21 @@ pub fn rk(e: ExprContext) -> usize
     ensures { λ r. ⌜ rkOf e ≡ r ⌝ }
 {
     if is_kind(e, ExprKind::K) {
-        return e.info % 256 + 256;
+        return e.info % BITRK + BITRK;
     }
     e.info
 }
 
 // ---- registers
 
-// The register of a value in one; of another 256, which is none.
+// The register of a value in one; of another BITRK, which is none.
 fn register_of(e: ExprContext) -> usize
     ensures { λ r. ⌜ registerOf e ≡ r ⌝ }
 {
     if is_kind(e, ExprKind::NonReloc) {
         return e.info;
     }
-    256
+    BITRK
 }
 
 // The register of a value in one is free again.

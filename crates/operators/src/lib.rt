@@ -31,6 +31,7 @@ use discharge::with_kind;
 use folding::Arith;
 use folding::Fold;
 use folding::Numeral;
+use instructions::MAXINDEXRK;
 use jumps::concat_jumps;
 use model::Described;
 use model::ExprContext;
@@ -248,8 +249,8 @@ fn is_far(found: Found, count: usize) -> bool
     ensures { λ r. ⌜ is-far found count ≡ r ⌝ }
 {
     match found {
-        Found::At(k) => 255 < k,
-        Found::Nothing => 255 < count,
+        Found::At(k) => MAXINDEXRK < k,
+        Found::Nothing => MAXINDEXRK < count,
     }
 }
 

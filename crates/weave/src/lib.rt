@@ -13,6 +13,9 @@ use lowering::lower;
 use model::Lowered;
 use refusals::Refusal;
 
+// The longest input of `weavelist`, in bytes.
+pub const MAX_INPUT: usize = 65536;
+
 // ---- what the program lends: of a fresh buffer only the length is told, since whoever is lent one clears it
 
 fn fresh_words() -> [u32; 8192]
@@ -68,7 +71,7 @@ fn weave_in(
 pub fn weave(input: &[u8], out: &mut [u8]) -> Listed
     ensures { λ r. ⌜ written (length (now (out .entry))) (weavelistOf (now (input .entry))) ≡ left r (now (out .exit)) ⌝ }
 {
-    if input.len() > 65536 {
+    if input.len() > MAX_INPUT {
         return listing(Lowered::Refused(Refusal::TooLong), &[], &[], &[], &[], out);
     }
     let mut code = fresh_words();
