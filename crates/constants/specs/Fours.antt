@@ -1,4 +1,4 @@
--- Four bytes or four values at once, as the search compares them, and what follows from that for each of the four. Assumes nothing.
+-- Four bytes or four values at once, as the search compares them. Assumes nothing.
 use mathlib.Core.Path.{_≡_}
 use mathlib.Core.Bool.{Bool, _||_}
 use mathlib.Core.List.{List}

@@ -139,7 +139,7 @@ fn in_four(values: &[u64], at: usize, bits: u64) -> bool
     values[at + 3] == bits
 }
 
-// Past as many fours of the first `n` values as don't have this one.
+// Past fours of the first `n` values that don't have this one: how many is left free, none that has it is passed.
 fn past_fours(values: &[u64], n: usize, bits: u64) -> usize
     requires { ⌜ n ≤ length (now values) ⌝ }
     ensures { λ r. ⌜ Without (now (values .entry)) r bits ⌝ }
@@ -219,7 +219,7 @@ pub fn find(kinds: &[u8], values: &[u64], pool: &[u8], chunk: &[u8], count: usiz
     }
 }
 
-// The same for a number alone: without a pool and a chunk `find` is asked at one place only, where the compiler takes it in.
+// The same for a number alone, which needs neither pool nor chunk. It stands apart so that `find` has a single call, which the compiler inlines.
 pub fn find_numeral(kinds: &[u8], values: &[u64], count: usize, bits: u64) -> Found
     ensures { λ r. ⌜ ((pool chunk : List ℕ) (v : Val) → constantOf chunk v ≡ number bits → findIn (holds pool chunk v) count (now (kinds .entry)) (now (values .entry)) ≡ r) ⌝ }
 {
