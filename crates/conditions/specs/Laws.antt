@@ -1,28 +1,31 @@
 -- Conditional jumps step by step: what a definition comes to once the answers of its steps are known, as the code reads them. Assumes nothing.
-use Prim.Native.Nat.{ℕ, _-_}
+use Prim.Native.Nat.{ℕ, _+_, _-_}
 use mathlib.Core.Bool.{Bool, true, false, not}
 use mathlib.Core.List.{List}
-use mathlib.Core.Path.{_≡_, refl, ap, _∙_}
+use mathlib.Core.Path.{_≡_, refl, sym, ap, _∙_}
 use lib.Dec.{eqb}
+use lib.IntN.{negsuc}
 use lib.ListN.{length, set}
 use Rattle.refusals.specs.declared.Refusal.{Refusal}
+use Rattle.refusals.specs.declared.Refusal.the-variants.{Words}
 use Rattle.instructions.specs.Limits.{noReg}
-use Rattle.instructions.specs.Word.{aOf, bOf, setAOf}
+use Rattle.instructions.specs.Word.{aOf, bOf, setAOf, abcOf, aSbxOf}
 use Rattle.opcodes.specs.declared.OpCode.{OpCode}
 use Rattle.opcodes.specs.declared.OpCode.the-variants as op
 use Rattle.model.specs.declared.ExprKind.{ExprKind}
 use Rattle.model.specs.declared.ExprKind.the-variants.{Nil, True, False, K, KNum, Local, Global, Indexed, Jmp, Relocable, NonReloc, Call, VarArg}
 use Rattle.model.specs.declared.ExprContext.{ExprContext}
 use Rattle.model.specs.declared.State.{State}
-use Rattle.model.specs.Steps.{Buffers, bufs, Step, Result, done, refused, andThen}
+use Rattle.model.specs.Steps.{Buffers, bufs, Step, Result, done, refused, andThen, return}
 use Rattle.model.specs.Descriptor.{with-kind, with-jumps, tagOf, isKind}
 use Rattle.model.specs.Jumps.{word, jump-list, get-jump-control, concat-jumps, linked, remove-values}
-use Rattle.model.specs.Emission.{with-pc, emit-abc, emit-jump, concat, patch-to-here}
+use Rattle.model.specs.Emission.{with-pc, with-jpc, discharge-jpc, no-room, store, push, emit-at, emit, emit-abc, emit-jump, concat, patch-to-here}
 use Rattle.model.specs.Discharge.{discharge-vars, discharge2anyreg, free-expr}
 use Rattle.model.specs.Conditions.{bit, pop, invertjump, is-not, jumponcond, jump-if-false, jump-if-true, goiftrue, goiffalse, emit-not, negate, code-not}
-use Rattle.emission.specs.Laws.{branch}
+use Rattle.jumps.specs.Walk.{remove-end, linked-none, concat-none}
+use Rattle.emission.specs.Laws.{branch, then-done}
 use Rattle.discharge.specs.Kinds.{kind-is}
-use Rattle.conditions.specs.Parts.{relocable, unary, tested, always-true, always-false, in-register}
+use Rattle.conditions.specs.Parts.{relocable, unary, lone-jump, tested, always-true, always-false, in-register}
 
 -- what holds of a kind holds of a descriptor's own
 pub at-kind : {A : Type 0} (f : ExprKind → Result A) (k : ExprKind) (e : ExprContext) {r : Result A} → isKind k e ≡ true → f k ≡ r → f (e .kind) ≡ r
@@ -44,6 +47,42 @@ module _ (s : State) (code ls ks vs p : List ℕ) where
   unfolding concat andThen
   concat-is a b h i = simp (concat, h, i)
 
+-- the jumps that are pending after a step
+unfoldable jpc-of : Result ℕ → ℕ
+jpc-of (done n t m) = t .jpc
+jpc-of (refused r m) = 0
+
+push-jpc : (w line : ℕ) (s : State) (m : Buffers) → jpc-of (push w line (with-jpc 0 s) m) ≡ 0
+unfolding push jpc-of
+push-jpc w line s m = go (no-room s m)
+  where
+    go : (b : Bool) → jpc-of (elim b [ true ↦ refused Words m | false ↦ done (s .pc) (with-pc (s .pc + 1) (with-jpc 0 s)) (store w line s m) ]) ≡ 0
+    go true = refl
+    go false = refl
+
+-- none are after a word
+emit-jpc : (w : ℕ) (s : State) (m : Buffers) {n : ℕ} {t : State} {k : Buffers} → emit w s m ≡ done n t k → t .jpc ≡ 0
+unfolding emit emit-at discharge-jpc andThen jpc-of
+emit-jpc w s m h = sym (ap jpc-of h) ∙ push-jpc w (s .line) s _
+
+-- and where none are, a new jump takes over none
+jump-lone : (s : State) (m : Buffers) → s .jpc ≡ 0 → emit-jump s m ≡ lone-jump s m
+unfolding emit-jump concat andThen
+jump-lone s m h =
+    let words : remove-values (length (m .code)) (m .code) (s .jpc) ≡ m .code = remove-end _ _ _ h in
+    let state : with-jpc 0 s ≡ s = ap (λ (j : ℕ). with-jpc j s) (sym h) in
+    ap (λ (x : List ℕ). andThen (emit jump (with-jpc 0 s) (bufs x (m .lines) (m .kinds) (m .values) (m .pool))) over) words ∙ ap (λ (t : State). andThen (emit jump t m) over) state ∙ go (emit jump s m)
+  where
+    jump : ℕ
+    jump = aSbxOf op.Jmp 0 (negsuc 0)
+
+    over : ℕ → Step ℕ
+    over pc = concat (pc + 1) (s .jpc)
+
+    go : (x : Result ℕ) → andThen x over ≡ andThen x (λ pc. return (pc + 1))
+    go (done pc t k) = rw (concat-none (pc + 1) (s .jpc) h, linked-none (k .code) (pc + 1) (s .jpc) h) refl
+    go (refused r k) = refl
+
 module _ (o : OpCode) (b c : ℕ) (s : State) (m : Buffers) where
   pub relocable-done : (e : ExprContext) {d : ExprContext} {n : ℕ} {t : State} {k : Buffers} → emit-abc o 0 b c s m ≡ done n t k → with-kind Relocable n e ≡ d → relocable o b c e s m ≡ done d t k
   unfolding andThen
@@ -53,9 +92,8 @@ module _ (o : OpCode) (b c : ℕ) (s : State) (m : Buffers) where
   unfolding andThen
   relocable-refused e h = simp h
 
-  pub tested-done : (a : ℕ) {n : ℕ} {t : State} {k : Buffers} → emit-abc o a b c s m ≡ done n t k → tested o a b c s m ≡ emit-jump t k
-  unfolding andThen
-  tested-done a h = simp h
+  pub tested-lone : (a : ℕ) {n : ℕ} {t : State} {k : Buffers} → emit-abc o a b c s m ≡ done n t k → tested o a b c s m ≡ lone-jump t k
+  tested-lone a {t = t} {k = k} h = then-done (λ _. emit-jump) h ∙ jump-lone t k (emit-jpc (abcOf o a b c) s m h)
 
   pub tested-refused : (a : ℕ) {r : Refusal} {k : Buffers} → emit-abc o a b c s m ≡ refused r k → tested o a b c s m ≡ refused r k
   unfolding andThen

@@ -10,12 +10,13 @@ ghost use Rattle.model.specs.Steps.{done, givenIs, describedIs, bufs};
 ghost use Rattle.model.specs.Descriptor.{isKind};
 ghost use Rattle.model.specs.Jumps.{word, isOp};
 ghost use Rattle.model.specs.Conditions.{bit as bitOf, pop as popOf, invertjump as invertjumpOf, jumponcond as jumponcondOf, jump-if-false, jump-if-true, goiftrue as goiftrueOf, goiffalse as goiffalseOf, emit-not, negate as negateOf, code-not};
-ghost use Rattle.conditions.specs.Parts.{relocable, unary, tested, always-true, always-false, in-register};
+ghost use Rattle.conditions.specs.Parts.{relocable, unary, lone-jump, tested, always-true, always-false, in-register};
 use discharge::discharge_vars;
 use discharge::discharge2anyreg;
 use discharge::set_a_at;
 use discharge::with_jumps;
 use discharge::with_kind;
+use emission::emit;
 use emission::emit_abc;
 use emission::emit_jump;
 use emission::patch_to_here;
@@ -125,6 +126,18 @@ pub fn emit_unary(
     emit_relocable(code, lines, s, op, e.info, 0, e)
 }
 
+// A jump where none is pending: a list of its own.
+fn lone_jump(code: &mut [u32], lines: &mut [u32], st: State) -> Given
+    ensures { λ r. ⌜ ((ks vs p : List ℕ) → lone-jump st (bufs (now (code .entry)) (now (lines .entry)) ks vs p) ≡ givenIs r (bufs (now (code .exit)) (now (lines .exit)) ks vs p)) ⌝ }
+{
+    let i = Instruction::a_sbx(OpCode::Jmp, 0, -1);
+    let answer = emit(code, lines, st, i.raw);
+    match answer {
+        Given::Done(s, pc) => Given::Done(s, pc + 1),
+        Given::Refused(k) => Given::Refused(k),
+    }
+}
+
 // A test, and the jump that it decides on.
 pub fn emit_test(
     code: &mut [u32],
@@ -139,7 +152,7 @@ pub fn emit_test(
 {
     let answer = emit_abc(code, lines, st, op, a, b, c);
     match answer {
-        Given::Done(s, _) => emit_jump(code, lines, s),
+        Given::Done(s, _) => lone_jump(code, lines, s),
         Given::Refused(k) => Given::Refused(k),
     }
 }

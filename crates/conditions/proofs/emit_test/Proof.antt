@@ -1,7 +1,7 @@
--- `conditions::emit_test` meets its contract, by those of `emit_abc` and `emit_jump`. Assumes nothing.
+-- `conditions::emit_test` meets its contract, by those of `emit_abc` and `lone_jump`: no jump is pending after a word. Assumes nothing.
 use mathlib.Core.Path.{_∙_}
 use Rattle.discharge.specs.Laws.{given-told}
-use Rattle.conditions.specs.Laws.{tested-done, tested-refused}
+use Rattle.conditions.specs.Laws.{tested-lone, tested-refused}
 use borrow.Author.Needs.{needs}
 use Rattle.conditions.proofs.emit_test.Statement.{statement}
 use Rattle.conditions.proofs.emit_test.Tie as tie
@@ -12,8 +12,8 @@ emit-abc-requires c κs = search needs
 enum-known-answer : tie.Need-enum-known-answer
 enum-known-answer c = search needs
 
-emit-jump-requires : tie.Need-emit-jump-requires
-emit-jump-requires c κs = search needs
+lone-jump-requires : tie.Need-lone-jump-requires
+lone-jump-requires c κs = search needs
 
 enum-known-answer-2 : tie.Need-enum-known-answer-2
 enum-known-answer-2 c = search needs
@@ -29,7 +29,7 @@ returns c =
     let p4 = c .before .before .before .before in
     let p8 = p4 .before .before .before .before in
     let p14 = p8 .before .before .before .before .before .before in
-    λ ks vs p. tested-done _ _ _ _ _ _ (given-told ((p14 .emit-abc .result)) _ ((p14 .emit-abc .ensures) ks vs p) (p8 .answer .given .1)) ∙ (p4 .emit-jump .ensures) ks vs p
+    λ ks vs p. tested-lone _ _ _ _ _ _ (given-told ((p14 .emit-abc .result)) _ ((p14 .emit-abc .ensures) ks vs p) (p8 .answer .given .1)) ∙ (p4 .lone-jump .ensures) ks vs p
 
 same-length-3 : tie.Need-same-length-3
 same-length-3 c = search needs
@@ -48,7 +48,7 @@ emit-test-spec =
     (tie.spec
     emit-abc-requires
     enum-known-answer
-    emit-jump-requires
+    lone-jump-requires
     enum-known-answer-2
     same-length
     same-length-2
