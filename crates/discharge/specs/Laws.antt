@@ -253,21 +253,17 @@ module _ (e : ExprContext) (reg : ℕ) (s : State) (m : Buffers) where
   abbrev needs : ℕ → Bool
   needs list = need-value (length (m .code)) (m .code) list
 
-  pub settle-true : needs (e .t) ≡ true → settle e reg s m ≡ load-both e reg s m
-  unfolding settle andThen
-  settle-true h = ap (λ (b : Bool). branch (b || needs (e .f)) (load-both e reg) landed s m) h
-
-  module _ (h : needs (e .t) ≡ false) where
-    settle-is : settle e reg s m ≡ branch (needs (e .f)) (load-both e reg) landed s m
+  module _ {b : Bool} (h : (needs (e .t) || needs (e .f)) ≡ b) where
+    settle-is : settle e reg s m ≡ branch b (load-both e reg) landed s m
     unfolding settle andThen
-    settle-is = ap (λ (b : Bool). branch (b || needs (e .f)) (load-both e reg) landed s m) h
+    settle-is = ap (λ (x : Bool). branch x (load-both e reg) landed s m) h
 
-    pub settle-false : needs (e .f) ≡ true → settle e reg s m ≡ load-both e reg s m
-    settle-false q = settle-is ∙ ap (λ (b : Bool). branch b (load-both e reg) landed s m) q
+  pub settle-loads : (needs (e .t) || needs (e .f)) ≡ true → settle e reg s m ≡ load-both e reg s m
+  settle-loads h = settle-is h
 
-    pub settle-none : {t : State} {k : Buffers} → needs (e .f) ≡ false → get-label s m ≡ done (s .pc) t m → land e reg (s .pc) (s .pc) (s .pc) t m ≡ done tt t k → settle e reg s m ≡ done tt t k
-    unfolding andThen
-    settle-none q g l = settle-is ∙ ap (λ (b : Bool). branch b (load-both e reg) landed s m) q ∙ ap (λ (y : Result ℕ). andThen y (λ (final : ℕ). land e reg final final final)) g ∙ l
+  pub settle-none : {t : State} {k : Buffers} → (needs (e .t) || needs (e .f)) ≡ false → get-label s m ≡ done (s .pc) t m → land e reg (s .pc) (s .pc) (s .pc) t m ≡ done tt t k → settle e reg s m ≡ done tt t k
+  unfolding andThen
+  settle-none h g l = settle-is h ∙ ap (λ (y : Result ℕ). andThen y (λ (final : ℕ). land e reg final final final)) g ∙ l
 
   module _ {d : ExprContext} {k : Buffers} (j : join-jump e s m ≡ done d s k) where
     abbrev rest : ExprContext → Step ExprContext

@@ -1,6 +1,6 @@
 // Discharging: a descriptor becomes a value, a register or an RK operand. The middle part of rilua's codegen.rs, over the lent buffers.
 // A state and a descriptor go in by value and come back in the answer. Nothing is assumed of either.
-ghost use mathlib.Core.Bool.{true, false};
+ghost use mathlib.Core.Bool.{true, false, _||_};
 ghost use mathlib.Core.List.{List, []};
 ghost use mathlib.Core.Path.{_≡_};
 ghost use Prim.Native.Nat.{ℕ, _+_};
@@ -8,14 +8,17 @@ ghost use lib.ListN.{length, set};
 ghost use Rattle.instructions.specs.Word.{setAOf, setBOf, setCOf};
 ghost use Rattle.model.specs.declared.ExprKind.the-variants.{Nil, KNum, Global, Indexed, NonReloc, Call, VarArg};
 ghost use Rattle.model.specs.declared.State.{State};
+ghost use Rattle.model.specs.declared.ExprContext.{ExprContext};
 ghost use Rattle.model.specs.Steps.{Buffers, bufs, done, andThen, steppedIs, givenIs, describedIs};
 ghost use Rattle.model.specs.Descriptor.{isKind, with-kind, with-jumps, has-jumps};
-ghost use Rattle.model.specs.Jumps.{word};
+ghost use Rattle.model.specs.Jumps.{word, need-value};
 ghost use Rattle.model.specs.Emission.{add-constant};
 ghost use Rattle.model.specs.Discharge.{discharge-kind, discharge-vars, number-constant, load-kind, discharge2reg as discharge2regOf, discharge2anyreg as discharge2anyregOf, land as landOf, load-both, settle as settleOf, join-jump, exp2reg as exp2regOf, exp2nextreg as exp2nextregOf, exp2anyreg as exp2anyregOf, exp2val as exp2valOf, small as smallOf, near as nearOf, rk-kind, exp2rk as exp2rkOf};
+ghost use Rattle.discharge.specs.Changes.{stateOf, contextOf, changes as changesOf, changed as changedOf};
 ghost use Rattle.discharge.specs.Kinds.{put, give, over-of, load-yes, load-no, placed};
 ghost use Rattle.discharge.specs.Wants.{only-value, keeps-open, is-value, is-plain, wants-operand, wanted, reg-of, landing-of, there-of, restIs, spotIs};
 ghost use Rattle.discharge.specs.declared.Want.the-variants.{Next, Rk};
+use constants::Table;
 use constants::Val;
 use emission::alloc_reg;
 use emission::code_label;
@@ -405,14 +408,21 @@ fn load_both(code: &mut [u32], lines: &mut [u32], st: State, e: ExprContext, reg
     }
 }
 
+// Whether some jump of either list brings no value.
+fn lacks_value(code: &[u32], e: ExprContext) -> bool
+    ensures { λ r. ⌜ (need-value (length (now (code .entry))) (now (code .entry)) (e .t) || need-value (length (now (code .entry))) (now (code .entry)) (e .f)) ≡ r ⌝ }
+{
+    if need_value(code, e.t) {
+        return true;
+    }
+    need_value(code, e.f)
+}
+
 // Loads of false and true where some jump brings no value, and all jumps land.
 fn settle(code: &mut [u32], lines: &mut [u32], st: State, e: ExprContext, reg: usize) -> Stepped
     ensures { λ r. ⌜ ((ks vs p : List ℕ) → settleOf e reg st (bufs (now (code .entry)) (now (lines .entry)) ks vs p) ≡ steppedIs r (bufs (now (code .exit)) (now (lines .exit)) ks vs p)) ⌝ }
 {
-    if need_value(code, e.t) {
-        return load_both(code, lines, st, e, reg);
-    }
-    if need_value(code, e.f) {
+    if lacks_value(code, e) {
         return load_both(code, lines, st, e, reg);
     }
     land(code, e, reg, st.pc, st.pc, st.pc);
@@ -762,8 +772,7 @@ fn bring_value(
 }
 
 // A descriptor becomes what is wanted. No constant is needed where only a value is wanted.
-// It is built anew first: of one that was passed on whole the machine would copy the bytes between its fields too, and wait for them.
-pub fn bring(
+fn as_wanted(
     code: &mut [u32],
     lines: &mut [u32],
     kinds: &mut [u8],
@@ -775,8 +784,7 @@ pub fn bring(
 ) -> Described
     ensures { λ r. ⌜ (wanted want e st (bufs (now (code .entry)) (now (lines .entry)) (now (kinds .entry)) (now (values .entry)) (now (pool .entry))) ≡ describedIs r (bufs (now (code .exit)) (now (lines .exit)) (now (kinds .exit)) (now (values .exit)) (now (pool .exit)))) × (only-value want ≡ true → (ks vs p : List ℕ) → discharge-vars e st (bufs (now (code .entry)) (now (lines .entry)) ks vs p) ≡ describedIs r (bufs (now (code .exit)) (now (lines .exit)) ks vs p)) ⌝ }
 {
-    let anew = with_jumps(e, e.t, e.f);
-    let answer = discharge_kind(code, lines, st, anew);
+    let answer = discharge_kind(code, lines, st, e);
     match answer {
         Described::Done(s, d) => {
             if only_value(want) {
@@ -788,6 +796,187 @@ pub fn bring(
     }
 }
 
+// ---- what it changes
+
+// State and descriptor go to `bring_fields` number by number, and it gives back only what may have changed:
+// a struct goes through memory, and the machine waits for what is copied as soon as it is written.
+struct Change {
+    pc: usize,
+    count: usize,
+    used: usize,
+    free: usize,
+    frame: usize,
+    jpc: usize,
+    label: usize,
+    info: usize,
+    t: usize,
+    f: usize,
+    kind: ExprKind,
+}
+
+enum Brought {
+    Refused(Refusal),
+    Done(Change),
+}
+
+// What may have changed.
+fn changes(answer: Described) -> Brought
+    ensures { λ r. ⌜ changesOf answer ≡ r ⌝ }
+{
+    match answer {
+        Described::Done(s, e) => {
+            let table = s.table;
+            let kind = e.kind;
+            Brought::Done(Change {
+                pc: s.pc,
+                count: table.count,
+                used: table.used,
+                free: s.free,
+                frame: s.frame,
+                jpc: s.jpc,
+                label: s.label,
+                info: e.info,
+                t: e.t,
+                f: e.f,
+                kind,
+            })
+        }
+        Described::Refused(k) => Brought::Refused(k),
+    }
+}
+
+// State and descriptor with the changes.
+fn changed(answer: Brought, st: State, e: ExprContext) -> Described
+    ensures { λ r. ⌜ changedOf answer st e ≡ r ⌝ }
+{
+    match answer {
+        Brought::Done(c) => {
+            let table = Table {
+                count: c.count,
+                used: c.used,
+            };
+            let kind = c.kind;
+            Described::Done(
+                State {
+                    at: st.at,
+                    line: st.line,
+                    pc: c.pc,
+                    table,
+                    active: st.active,
+                    free: c.free,
+                    frame: c.frame,
+                    jpc: c.jpc,
+                    label: c.label,
+                },
+                ExprContext {
+                    kind,
+                    info: c.info,
+                    aux: e.aux,
+                    number: e.number,
+                    bits: e.bits,
+                    t: c.t,
+                    f: c.f,
+                },
+            )
+        }
+        Brought::Refused(k) => Described::Refused(k),
+    }
+}
+
+fn bring_fields(
+    code: &mut [u32],
+    lines: &mut [u32],
+    kinds: &mut [u8],
+    values: &mut [u64],
+    pool: &mut [u8],
+    at: usize,
+    line: u32,
+    pc: usize,
+    count: usize,
+    used: usize,
+    active: usize,
+    free: usize,
+    frame: usize,
+    jpc: usize,
+    label: usize,
+    kind: ExprKind,
+    info: usize,
+    aux: usize,
+    number: f64,
+    bits: u64,
+    t: usize,
+    f: usize,
+    want: Want,
+) -> Brought
+    ensures { λ r. ⌜ ((s : State) (e : ExprContext) → stateOf at line pc count used active free frame jpc label ≡ s → contextOf kind info aux number bits t f ≡ e → (wanted want e s (bufs (now (code .entry)) (now (lines .entry)) (now (kinds .entry)) (now (values .entry)) (now (pool .entry))) ≡ describedIs (changedOf r s e) (bufs (now (code .exit)) (now (lines .exit)) (now (kinds .exit)) (now (values .exit)) (now (pool .exit)))) × (only-value want ≡ true → (ks vs p : List ℕ) → discharge-vars e s (bufs (now (code .entry)) (now (lines .entry)) ks vs p) ≡ describedIs (changedOf r s e) (bufs (now (code .exit)) (now (lines .exit)) ks vs p))) ⌝ }
+{
+    let table = Table { count, used };
+    let st = State {
+        at,
+        line,
+        pc,
+        table,
+        active,
+        free,
+        frame,
+        jpc,
+        label,
+    };
+    let e = ExprContext {
+        kind,
+        info,
+        aux,
+        number,
+        bits,
+        t,
+        f,
+    };
+    changes(as_wanted(code, lines, kinds, values, pool, st, e, want))
+}
+
+// A descriptor becomes what is wanted.
+pub fn bring(
+    code: &mut [u32],
+    lines: &mut [u32],
+    kinds: &mut [u8],
+    values: &mut [u64],
+    pool: &mut [u8],
+    st: State,
+    e: ExprContext,
+    want: Want,
+) -> Described
+    ensures { λ r. ⌜ wanted want e st (bufs (now (code .entry)) (now (lines .entry)) (now (kinds .entry)) (now (values .entry)) (now (pool .entry))) ≡ describedIs r (bufs (now (code .exit)) (now (lines .exit)) (now (kinds .exit)) (now (values .exit)) (now (pool .exit))) ⌝ }
+{
+    let table = st.table;
+    let kind = e.kind;
+    let answer = bring_fields(
+        code,
+        lines,
+        kinds,
+        values,
+        pool,
+        st.at,
+        st.line,
+        st.pc,
+        table.count,
+        table.used,
+        st.active,
+        st.free,
+        st.frame,
+        st.jpc,
+        st.label,
+        kind,
+        e.info,
+        e.aux,
+        e.number,
+        e.bits,
+        e.t,
+        e.f,
+        want,
+    );
+    changed(answer, st, e)
+}
+
 // ---- by the Rust's names
 
 // A variable, an indexed value, a call or a vararg becomes a value.
@@ -797,16 +986,34 @@ pub fn discharge_vars(code: &mut [u32], lines: &mut [u32], st: State, e: ExprCon
     let mut kinds = [0u8; 1];
     let mut values = [0u64; 1];
     let mut pool = [0u8; 1];
-    bring(
+    let table = st.table;
+    let kind = e.kind;
+    let answer = bring_fields(
         code,
         lines,
         &mut kinds,
         &mut values,
         &mut pool,
-        st,
-        e,
+        st.at,
+        st.line,
+        st.pc,
+        table.count,
+        table.used,
+        st.active,
+        st.free,
+        st.frame,
+        st.jpc,
+        st.label,
+        kind,
+        e.info,
+        e.aux,
+        e.number,
+        e.bits,
+        e.t,
+        e.f,
         Want::Value,
-    )
+    );
+    changed(answer, st, e)
 }
 
 pub fn discharge2reg(

@@ -1,45 +1,20 @@
--- `discharge::bring` meets its contract, by those of `discharge_kind` and `bring_value`: what is wanted of a descriptor is what is wanted of its value. Assumes nothing.
-use mathlib.Core.Bool.{false≢true}
-use mathlib.Core.List.{[]}
-use mathlib.Core.Path.{_≡_, _∙_, sym}
-use Rattle.discharge.specs.Laws.{described-told}
-use Rattle.discharge.specs.Bringing.{told-value, wanted-done, value-done, wanted-refused}
+-- `discharge::bring` meets its contract, by that of `bring_fields`. Assumes nothing.
+use mathlib.Core.Path.{refl}
 use borrow.Author.Needs.{needs}
 use Rattle.discharge.proofs.bring.Statement.{statement}
 use Rattle.discharge.proofs.bring.Tie as tie
 
-with-jumps-requires : tie.Need-with-jumps-requires
-with-jumps-requires c κs = search needs
+bring-fields-requires : tie.Need-bring-fields-requires
+bring-fields-requires c κs = search needs
 
-discharge-kind-requires : tie.Need-discharge-kind-requires
-discharge-kind-requires c κs = search needs
-
-enum-known-answer : tie.Need-enum-known-answer
-enum-known-answer c = search needs
-
-only-value-requires : tie.Need-only-value-requires
-only-value-requires c κs = search needs
+changed-requires : tie.Need-changed-requires
+changed-requires c κs = search needs
 
 same-length : tie.Need-same-length
 same-length c = search needs
 
 same-length-2 : tie.Need-same-length-2
 same-length-2 c = search needs
-
-returns : tie.Need-returns
-returns c =
-    let p3 = c .before .before .before in
-    let p9 = p3 .before .before .before .before .before .before in
-    let p12 = p9 .before .before .before in
-    let p18 = p12 .before .before .before .before .before .before in
-    let z : p18 .args .e ≡ p12 .with-jumps .result = p12 .with-jumps .ensures in
-    rw z (value-done _ ((p18 .args .st)) _ (described-told ((p9 .discharge-kind .result)) _ ((p9 .discharge-kind .ensures) _ _ _) ((p3 .answer .given .1))) ((p18 .args .want)) ((c .before .only-value .ensures) ∙ (c .if1 .taken)), λ _ ks vs p. described-told ((p9 .discharge-kind .result)) _ ((p9 .discharge-kind .ensures) ks vs p) ((p3 .answer .given .1)))
-
-bring-value-requires : tie.Need-bring-value-requires
-bring-value-requires c κs = search needs
-
-enum-known-answer-2 : tie.Need-enum-known-answer-2
-enum-known-answer-2 c = search needs
 
 same-length-3 : tie.Need-same-length-3
 same-length-3 c = search needs
@@ -50,57 +25,20 @@ same-length-4 c = search needs
 same-length-5 : tie.Need-same-length-5
 same-length-5 c = search needs
 
-same-length-6 : tie.Need-same-length-6
-same-length-6 c = search needs
-
-same-length-7 : tie.Need-same-length-7
-same-length-7 c = search needs
-
-returns-2 : tie.Need-returns-2
-returns-2 c =
-    let p10 = c .before .before .before .before .before .before .before .before .before .before in
-    let p16 = p10 .before .before .before .before .before .before in
-    let p17 = p16 .before in
-    let p19 = p17 .before .before in
-    let p25 = p19 .before .before .before .before .before .before in
-    let p28 = p25 .before .before .before in
-    let p34 = p28 .before .before .before .before .before .before in
-    let z : p34 .args .e ≡ p28 .with-jumps .result = p28 .with-jumps .ensures in
-    rw z (wanted-done _ ((p34 .args .st)) _ (described-told ((p25 .discharge-kind .result)) _ ((p25 .discharge-kind .ensures) _ _ _) ((p19 .answer .given .1))) ((p34 .args .want)) ∙ (p10 .bring-value .ensures) (told-value _ ((p34 .args .st)) _ (described-told ((p25 .discharge-kind .result)) _ ((p25 .discharge-kind .ensures) [] [] []) ((p19 .answer .given .1)))), λ q. absurd (false≢true (sym ((p17 .only-value .ensures) ∙ (p16 .if1 .left)) ∙ q)))
-
-same-length-8 : tie.Need-same-length-8
-same-length-8 c = search needs
-
-same-length-9 : tie.Need-same-length-9
-same-length-9 c = search needs
-
-returns-3 : tie.Need-returns-3
-returns-3 c =
-    let p7 = c .before .before .before .before .before .before .before in
-    let p10 = p7 .before .before .before in
-    let p16 = p10 .before .before .before .before .before .before in
-    let z : p16 .args .e ≡ p10 .with-jumps .result = p10 .with-jumps .ensures in
-    rw z (wanted-refused _ ((p16 .args .st)) _ (described-told ((p7 .discharge-kind .result)) _ ((p7 .discharge-kind .ensures) _ _ _) ((c .before .answer2 .given .1))) ((p16 .args .want)), λ _ ks vs p. described-told ((p7 .discharge-kind .result)) _ ((p7 .discharge-kind .ensures) ks vs p) ((c .before .answer2 .given .1)))
+returns : tie.Need-returns
+returns c =
+    let p11 = c .before .before .before .before .before .before .before .before .before .before .before in
+    rw (← (c .changed .ensures)) ((p11 .bring-fields .ensures) _ _ refl refl .0)
 
 pub bring-spec : {M : Type 1} → statement M
 bring-spec =
     tie.close
     (tie.spec
-    with-jumps-requires
-    discharge-kind-requires
-    enum-known-answer
-    only-value-requires
+    bring-fields-requires
+    changed-requires
     same-length
     same-length-2
-    returns
-    bring-value-requires
-    enum-known-answer-2
     same-length-3
     same-length-4
     same-length-5
-    same-length-6
-    same-length-7
-    returns-2
-    same-length-8
-    same-length-9
-    returns-3)
+    returns)
