@@ -17,6 +17,7 @@ use Rattle.emission.specs.Laws.{branch}
 use Rattle.discharge.specs.declared.Want.{Want}
 use Rattle.discharge.specs.declared.Want.the-variants.{Value, Load, Reg, Next, Any, Val, Rk}
 use Rattle.discharge.specs.declared.Operand.{Operand}
+use Rattle.discharge.specs.declared.Operand.the-variants as operand
 use Rattle.discharge.specs.declared.Spot.{Spot}
 use Rattle.discharge.specs.declared.Spot.the-variants as spot
 use Rattle.discharge.specs.Kinds.{kind-is, give, placed, any-of}
@@ -102,41 +103,41 @@ module _ (e : ExprContext) (s : State) (m : Buffers) {d : ExprContext} {t : Stat
   val-done true q = val-jumps e s m q ∙ any-done e s m h ∙ sym (val-jumps d t n (told e s m h .1 ∙ q) ∙ any-done d t n again)
   val-done false q = val-plain e s m q ∙ h ∙ sym (val-plain d t n (told e s m h .1 ∙ q) ∙ again)
 
-  pub wanted-done : (w : Want) → wanted w e s m ≡ wanted w d t n
-  wanted-done Value = h ∙ sym again
-  wanted-done (Load reg) = to-reg e reg s m h ∙ sym (to-reg d reg t n again)
-  wanted-done (Reg reg) =
+  pub wanted-done : (w : Want) (reg : ℕ) → wanted w reg e s m ≡ wanted w reg d t n
+  wanted-done Value reg = h ∙ sym again
+  wanted-done Load reg = to-reg e reg s m h ∙ sym (to-reg d reg t n again)
+  wanted-done Reg reg =
       reg-is e reg s m
       ∙ ap (λ (y : Result ExprContext). andThen y (λ (x : ExprContext). placed x reg)) (to-reg e reg s m h ∙ sym (to-reg d reg t n again))
       ∙ sym (reg-is d reg t n)
-  wanted-done Next = next-done e s m h ∙ sym (next-done d t n again)
-  wanted-done Any = any-done e s m h ∙ sym (any-done d t n again)
-  wanted-done Val = val-done (has-jumps e) refl
-  wanted-done Rk = rk-is e s m ∙ ap (λ (y : Result ExprContext). andThen y (λ (x : ExprContext). rk-kind (x .kind) x)) (val-done (has-jumps e) refl) ∙ sym (rk-is d t n)
+  wanted-done Next reg = next-done e s m h ∙ sym (next-done d t n again)
+  wanted-done Any reg = any-done e s m h ∙ sym (any-done d t n again)
+  wanted-done Val reg = val-done (has-jumps e) refl
+  wanted-done Rk reg = rk-is e s m ∙ ap (λ (y : Result ExprContext). andThen y (λ (x : ExprContext). rk-kind (x .kind) x)) (val-done (has-jumps e) refl) ∙ sym (rk-is d t n)
 
   -- and where only a value is
-  pub value-done : (w : Want) → only-value w ≡ true → wanted w e s m ≡ done d t n
-  value-done Value q = h
-  value-done (Load reg) q = absurd (false≢true q)
-  value-done (Reg reg) q = absurd (false≢true q)
-  value-done Next q = absurd (false≢true q)
-  value-done Any q = absurd (false≢true q)
-  value-done Val q = absurd (false≢true q)
-  value-done Rk q = absurd (false≢true q)
+  pub value-done : (w : Want) (reg : ℕ) → only-value w ≡ true → wanted w reg e s m ≡ done d t n
+  value-done Value reg q = h
+  value-done Load reg q = absurd (false≢true q)
+  value-done Reg reg q = absurd (false≢true q)
+  value-done Next reg q = absurd (false≢true q)
+  value-done Any reg q = absurd (false≢true q)
+  value-done Val reg q = absurd (false≢true q)
+  value-done Rk reg q = absurd (false≢true q)
 
 module _ (e : ExprContext) (s : State) (m : Buffers) {k : Refusal} {n : Buffers} (h : discharge-vars e s m ≡ refused k n) where
   val-refused : (b : Bool) → has-jumps e ≡ b → exp2val e s m ≡ refused k n
   val-refused true q = val-jumps e s m q ∙ any-refused e s m h
   val-refused false q = val-plain e s m q ∙ h
 
-  pub wanted-refused : (w : Want) → wanted w e s m ≡ refused k n
-  wanted-refused Value = h
-  wanted-refused (Load reg) = to-reg-refused e reg s m h
-  wanted-refused (Reg reg) = reg-refused e reg s m (to-reg-refused e reg s m h)
-  wanted-refused Next = next-refused e s m h
-  wanted-refused Any = any-refused e s m h
-  wanted-refused Val = val-refused (has-jumps e) refl
-  wanted-refused Rk = operand-refused e s m (val-refused (has-jumps e) refl)
+  pub wanted-refused : (w : Want) (reg : ℕ) → wanted w reg e s m ≡ refused k n
+  wanted-refused Value reg = h
+  wanted-refused Load reg = to-reg-refused e reg s m h
+  wanted-refused Reg reg = reg-refused e reg s m (to-reg-refused e reg s m h)
+  wanted-refused Next reg = next-refused e s m h
+  wanted-refused Any reg = any-refused e s m h
+  wanted-refused Val reg = val-refused (has-jumps e) refl
+  wanted-refused Rk reg = operand-refused e s m (val-refused (has-jumps e) refl)
 
 -- ---- as an operand
 
@@ -200,32 +201,38 @@ some-jumps true q = refl
 some-jumps false q = absurd (true≢false q)
 
 -- an answer that was found to be one of its kinds
-pub rest-told : (w : Want) (e : ExprContext) (g : Operand) (m : Buffers) {x : Result ExprContext} {h : Operand} → x ≡ restIs w e g m → g ≡ h → x ≡ restIs w e h m
-rest-told w e g m q h = q ∙ ap (λ (o : Operand). restIs w e o m) h
+pub rest-told : (w : Want) (reg : ℕ) (e : ExprContext) (g : Operand) (m : Buffers) {x : Result ExprContext} {h : Operand} → x ≡ restIs w reg e g m → g ≡ h → x ≡ restIs w reg e h m
+rest-told w reg e g m q h = q ∙ ap (λ (o : Operand). restIs w reg e o m) h
 
 pub spot-told : (w : Want) (e : ExprContext) (s : State) (g : Spot) (m : Buffers) {x : Result ExprContext} {h : Spot} → x ≡ spotIs w e s g m → g ≡ h → x ≡ spotIs w e s h m
 spot-told w e s g m q h = q ∙ ap (λ (o : Spot). spotIs w e s o m) h
 
+-- a register is named to no purpose where an operand is wanted
+rest-rk : (reg : ℕ) (e : ExprContext) (r : Operand) (n : Buffers) → restIs Rk 0 e r n ≡ restIs Rk reg e r n
+rest-rk reg e (operand.Constant s k) n = refl
+rest-rk reg e (operand.Other s) n = refl
+rest-rk reg e (operand.Refused k) n = refl
+
 -- a constant will do
-pub operand-wanted : (w : Want) (e : ExprContext) (s : State) (m : Buffers) (r : Operand) (n : Buffers) → is-value e ≡ true → wants-operand w e ≡ true →
-    rk-kind (e .kind) e s m ≡ restIs Rk e r n → wanted w e s m ≡ restIs w e r n
-operand-wanted Value e s m r n v q h = absurd (false≢true q)
-operand-wanted (Load reg) e s m r n v q h = absurd (false≢true q)
-operand-wanted (Reg reg) e s m r n v q h = absurd (false≢true q)
-operand-wanted Next e s m r n v q h = absurd (false≢true q)
-operand-wanted Any e s m r n v q h = absurd (false≢true q)
-operand-wanted Val e s m r n v q h = absurd (false≢true q)
-operand-wanted Rk e s m r n v q h = operand-done e s m (val-plain e s m (no-jumps _ q) ∙ value-stays e s m v) ∙ h
+pub operand-wanted : (w : Want) (reg : ℕ) (e : ExprContext) (s : State) (m : Buffers) (r : Operand) (n : Buffers) → is-value e ≡ true → wants-operand w e ≡ true →
+    rk-kind (e .kind) e s m ≡ restIs Rk 0 e r n → wanted w reg e s m ≡ restIs w reg e r n
+operand-wanted Value reg e s m r n v q h = absurd (false≢true q)
+operand-wanted Load reg e s m r n v q h = absurd (false≢true q)
+operand-wanted Reg reg e s m r n v q h = absurd (false≢true q)
+operand-wanted Next reg e s m r n v q h = absurd (false≢true q)
+operand-wanted Any reg e s m r n v q h = absurd (false≢true q)
+operand-wanted Val reg e s m r n v q h = absurd (false≢true q)
+operand-wanted Rk reg e s m r n v q h = operand-done e s m (val-plain e s m (no-jumps _ q) ∙ value-stays e s m v) ∙ h ∙ rest-rk reg e r n
 
 -- and where none will
-pub other-wanted : (w : Want) (e : ExprContext) (s : State) (m : Buffers) → wants-operand w e ≡ false → wanted w e s m ≡ reg-of w e s m
-other-wanted Value e s m q = refl
-other-wanted (Load reg) e s m q = refl
-other-wanted (Reg reg) e s m q = refl
-other-wanted Next e s m q = refl
-other-wanted Any e s m q = refl
-other-wanted Val e s m q = refl
-other-wanted Rk e s m q = rk-is e s m ∙ ap as-rk (val-jumps e s m (some-jumps _ q)) ∙ any-landed e s m
+pub other-wanted : (w : Want) (reg : ℕ) (e : ExprContext) (s : State) (m : Buffers) → wants-operand w e ≡ false → wanted w reg e s m ≡ reg-of w reg e s m
+other-wanted Value reg e s m q = refl
+other-wanted Load reg e s m q = refl
+other-wanted Reg reg e s m q = refl
+other-wanted Next reg e s m q = refl
+other-wanted Any reg e s m q = refl
+other-wanted Val reg e s m q = refl
+other-wanted Rk reg e s m q = rk-is e s m ∙ ap as-rk (val-jumps e s m (some-jumps _ q)) ∙ any-landed e s m
 
 -- ---- where it goes
 
@@ -233,11 +240,11 @@ pub reg-at : (e : ExprContext) (s : State) (m : Buffers) → is-value e ≡ true
 reg-at e s m v reg = reg-is e reg s m ∙ ap (λ (y : Result ExprContext). andThen y (λ (d : ExprContext). placed d reg)) (to-reg e reg s m (value-stays e s m v))
 
 module _ (e : ExprContext) (s : State) (m : Buffers) (v : is-value e ≡ true) where
-  pub load-at : (reg : ℕ) → discharge2reg e reg s m ≡ there-of (Load reg) e reg s m
+  pub load-at : (reg : ℕ) → discharge2reg e reg s m ≡ there-of Load e reg s m
   unfolding andThen
   load-at reg = to-reg e reg s m (value-stays e s m v) ∙ whole (load-kind (e .kind) e reg s m)
     where
-      whole : (x : Result ExprContext) → x ≡ andThen x (landing-of (Load reg) reg)
+      whole : (x : Result ExprContext) → x ≡ andThen x (landing-of Load reg)
       whole (done d a b) = refl
       whole (refused k b) = refl
 
@@ -268,17 +275,17 @@ spot-as w e s (spot.At t reg) m q = ap (λ (f : ℕ → ExprContext → Step Exp
 spot-as w e s (spot.Refused k) m q = refl
 
 -- what was found to be wanted
-pub as-told : (w : Want) (e : ExprContext) (s : State) (r : Spot) (m : Buffers) {u : Want} → w ≡ u → reg-of u e s m ≡ spotIs u e s r m → reg-of w e s m ≡ spotIs w e s r m
-as-told w e s r m q h = ap (λ (x : Want). reg-of x e s m) q ∙ h ∙ ap (λ (x : Want). spotIs x e s r m) (sym q)
+pub as-told : (w : Want) (reg : ℕ) (e : ExprContext) (s : State) (r : Spot) (m : Buffers) {u : Want} → w ≡ u → reg-of u reg e s m ≡ spotIs u e s r m → reg-of w reg e s m ≡ spotIs w e s r m
+as-told w reg e s r m q h = ap (λ (x : Want). reg-of x reg e s m) q ∙ h ∙ ap (λ (x : Want). spotIs x e s r m) (sym q)
 
-pub plain-stays : (w : Want) (e : ExprContext) (s : State) (m : Buffers) → is-value e ≡ true → is-plain w e ≡ true → reg-of w e s m ≡ done e s m
-plain-stays Value e s m v q = value-stays e s m v
-plain-stays (Load reg) e s m v q = absurd (false≢true q)
-plain-stays (Reg reg) e s m v q = absurd (false≢true q)
-plain-stays Next e s m v q = absurd (false≢true q)
-plain-stays Any e s m v q = absurd (false≢true q)
-plain-stays Val e s m v q = val-plain e s m (no-jumps _ q) ∙ value-stays e s m v
-plain-stays Rk e s m v q = absurd (false≢true q)
+pub plain-stays : (w : Want) (reg : ℕ) (e : ExprContext) (s : State) (m : Buffers) → is-value e ≡ true → is-plain w e ≡ true → reg-of w reg e s m ≡ done e s m
+plain-stays Value reg e s m v q = value-stays e s m v
+plain-stays Load reg e s m v q = absurd (false≢true q)
+plain-stays Reg reg e s m v q = absurd (false≢true q)
+plain-stays Next reg e s m v q = absurd (false≢true q)
+plain-stays Any reg e s m v q = absurd (false≢true q)
+plain-stays Val reg e s m v q = val-plain e s m (no-jumps _ q) ∙ value-stays e s m v
+plain-stays Rk reg e s m v q = absurd (false≢true q)
 
 -- ---- there
 
@@ -293,8 +300,8 @@ module _ (w : Want) (e : ExprContext) (reg : ℕ) (s : State) (m : Buffers) wher
 
 pub left-open : (w : Want) (reg : ℕ) (e : ExprContext) (s : State) (m : Buffers) → keeps-open w ≡ true → landing-of w reg e s m ≡ done e s m
 left-open Value reg e s m q = absurd (false≢true q)
-left-open (Load to) reg e s m q = refl
-left-open (Reg to) reg e s m q = absurd (false≢true q)
+left-open Load reg e s m q = refl
+left-open Reg reg e s m q = absurd (false≢true q)
 left-open Next reg e s m q = absurd (false≢true q)
 left-open Any reg e s m q = absurd (false≢true q)
 left-open Val reg e s m q = absurd (false≢true q)
@@ -302,8 +309,8 @@ left-open Rk reg e s m q = absurd (false≢true q)
 
 pub all-land : (w : Want) (reg : ℕ) (e : ExprContext) (s : State) (m : Buffers) → keeps-open w ≡ false → landing-of w reg e s m ≡ placed e reg s m
 all-land Value reg e s m q = refl
-all-land (Load to) reg e s m q = absurd (true≢false q)
-all-land (Reg to) reg e s m q = refl
+all-land Load reg e s m q = absurd (true≢false q)
+all-land Reg reg e s m q = refl
 all-land Next reg e s m q = refl
 all-land Any reg e s m q = refl
 all-land Val reg e s m q = refl

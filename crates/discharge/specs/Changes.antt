@@ -18,12 +18,10 @@ abbrev pub contextOf : ExprKind → ℕ → ℕ → Float → ℕ → ℕ → �
 contextOf kind info aux number bits t f = record { kind = kind; info = info; aux = aux; number = number; bits = bits; t = t; f = f }
 
 abbrev pub changes : Described → Brought
-changes (described.Done s e) =
-    brought.Done (record { pc = s .pc; count = s .table .count; used = s .table .used; free = s .free; frame = s .frame; jpc = s .jpc; label = s .label; info = e .info; t = e .t; f = e .f; kind = e .kind })
+changes (described.Done s e) = brought.Done (e .kind) (s .pc) (s .table .count) (s .table .used) (s .free) (s .frame) (s .jpc) (s .label) (e .info) (e .t) (e .f)
 changes (described.Refused k) = brought.Refused k
 
 abbrev pub changed : Brought → State → ExprContext → Described
-changed (brought.Done c) s e =
-    described.Done (stateOf (s .at) (s .line) (c .pc) (c .count) (c .used) (s .active) (c .free) (c .frame) (c .jpc) (c .label))
-    (contextOf (c .kind) (c .info) (e .aux) (e .number) (e .bits) (c .t) (c .f))
+changed (brought.Done kind pc count used free frame jpc label info t f) s e =
+    described.Done (stateOf (s .at) (s .line) pc count used (s .active) free frame jpc label) (contextOf kind info (e .aux) (e .number) (e .bits) t f)
 changed (brought.Refused k) s e = described.Refused k

@@ -371,14 +371,14 @@ unfolding exp2rk
 rks e s m = goes-on e s (exp2val e s m) _ (vals e s m) (λ d. operands (d .kind) d)
 
 -- whatever is wanted
-pub wanted-brings : (w : Want) (e : ExprContext) (s : State) (m : Buffers) → Brings e s (wanted w e s m)
-wanted-brings want.Value e s m = discharges (e .kind) e s m
-wanted-brings (want.Load reg) e s m = to-reg e reg s m
-wanted-brings (want.Reg reg) e s m = regs e reg s m
-wanted-brings want.Next e s m = nexts e s m
-wanted-brings want.Any e s m = anys e s m
-wanted-brings want.Val e s m = vals e s m
-wanted-brings want.Rk e s m = rks e s m
+pub wanted-brings : (w : Want) (reg : ℕ) (e : ExprContext) (s : State) (m : Buffers) → Brings e s (wanted w reg e s m)
+wanted-brings want.Value reg e s m = discharges (e .kind) e s m
+wanted-brings want.Load reg e s m = to-reg e reg s m
+wanted-brings want.Reg reg e s m = regs e reg s m
+wanted-brings want.Next reg e s m = nexts e s m
+wanted-brings want.Any reg e s m = anys e s m
+wanted-brings want.Val reg e s m = vals e s m
+wanted-brings want.Rk reg e s m = rks e s m
 
 -- so the answer is what it began with, with the changes
 kept-back : (r : Described) (e : ExprContext) (s : State) (m : Buffers) → Brings e s (describedIs r m) → changed (changes r) s e ≡ r
@@ -386,5 +386,5 @@ unfolding Stays
 kept-back (described.Done t d) e s m p = ap (λ (x : State). described.Done x (same-number e d)) (p .0) ∙ ap (described.Done t) (p .1)
 kept-back (described.Refused k) e s m p = refl
 
-pub wanted-kept : (w : Want) (e : ExprContext) (s : State) (m n : Buffers) (r : Described) → wanted w e s m ≡ describedIs r n → changed (changes r) s e ≡ r
-wanted-kept w e s m n r q = kept-back r e s n (subst (Brings e s) q (wanted-brings w e s m))
+pub wanted-kept : (w : Want) (reg : ℕ) (e : ExprContext) (s : State) (m n : Buffers) (r : Described) → wanted w reg e s m ≡ describedIs r n → changed (changes r) s e ≡ r
+wanted-kept w reg e s m n r q = kept-back r e s n (subst (Brings e s) q (wanted-brings w reg e s m))

@@ -16,20 +16,20 @@ use Rattle.discharge.specs.declared.Spot.{Spot}
 use Rattle.discharge.specs.declared.Spot.the-variants as spot
 use Rattle.discharge.specs.Kinds.{placed}
 
--- the definition that each is
-abbrev pub wanted : Want → ExprContext → Step ExprContext
-wanted Value e = discharge-vars e
-wanted (Load reg) e = discharge2reg e reg
-wanted (Reg reg) e = exp2reg e reg
-wanted Next e = exp2nextreg e
-wanted Any e = exp2anyreg e
-wanted Val e = exp2val e
-wanted Rk e = exp2rk e
+-- the definition that each is; `Load` and `Reg` want it in the register that is named
+abbrev pub wanted : Want → ℕ → ExprContext → Step ExprContext
+wanted Value reg e = discharge-vars e
+wanted Load reg e = discharge2reg e reg
+wanted Reg reg e = exp2reg e reg
+wanted Next reg e = exp2nextreg e
+wanted Any reg e = exp2anyreg e
+wanted Val reg e = exp2val e
+wanted Rk reg e = exp2rk e
 
 abbrev pub only-value : Want → Bool
 only-value Value = true
-only-value (Load reg) = false
-only-value (Reg reg) = false
+only-value Load = false
+only-value Reg = false
 only-value Next = false
 only-value Any = false
 only-value Val = false
@@ -37,8 +37,8 @@ only-value Rk = false
 
 abbrev pub keeps-open : Want → Bool
 keeps-open Value = false
-keeps-open (Load reg) = true
-keeps-open (Reg reg) = false
+keeps-open Load = true
+keeps-open Reg = false
 keeps-open Next = false
 keeps-open Any = false
 keeps-open Val = false
@@ -66,8 +66,8 @@ is-value e = value-kind (e .kind)
 -- whether a constant will do
 abbrev pub wants-operand : Want → ExprContext → Bool
 wants-operand Value e = false
-wants-operand (Load reg) e = false
-wants-operand (Reg reg) e = false
+wants-operand Load e = false
+wants-operand Reg e = false
 wants-operand Next e = false
 wants-operand Any e = false
 wants-operand Val e = false
@@ -76,28 +76,28 @@ wants-operand Rk e = not (has-jumps e)
 -- whether a value is what is wanted
 abbrev pub is-plain : Want → ExprContext → Bool
 is-plain Value e = true
-is-plain (Load reg) e = false
-is-plain (Reg reg) e = false
+is-plain Load e = false
+is-plain Reg e = false
 is-plain Next e = false
 is-plain Any e = false
 is-plain Val e = not (has-jumps e)
 is-plain Rk e = false
 
 -- what is left for a value that doesn't become a constant
-abbrev pub reg-of : Want → ExprContext → Step ExprContext
-reg-of Value e = discharge-vars e
-reg-of (Load reg) e = discharge2reg e reg
-reg-of (Reg reg) e = exp2reg e reg
-reg-of Next e = exp2nextreg e
-reg-of Any e = exp2anyreg e
-reg-of Val e = exp2val e
-reg-of Rk e = exp2anyreg e
+abbrev pub reg-of : Want → ℕ → ExprContext → Step ExprContext
+reg-of Value reg e = discharge-vars e
+reg-of Load reg e = discharge2reg e reg
+reg-of Reg reg e = exp2reg e reg
+reg-of Next reg e = exp2nextreg e
+reg-of Any reg e = exp2anyreg e
+reg-of Val reg e = exp2val e
+reg-of Rk reg e = exp2anyreg e
 
 -- in the register: the jumps land, unless they are to stay open
 abbrev pub landing-of : Want → ℕ → ExprContext → Step ExprContext
 landing-of Value reg e = placed e reg
-landing-of (Load to) reg e = return e
-landing-of (Reg to) reg e = placed e reg
+landing-of Load reg e = return e
+landing-of Reg reg e = placed e reg
 landing-of Next reg e = placed e reg
 landing-of Any reg e = placed e reg
 landing-of Val reg e = placed e reg
@@ -107,10 +107,10 @@ abbrev pub there-of : Want → ExprContext → ℕ → Step ExprContext
 there-of w e reg s m = andThen (load-kind (e .kind) e reg s m) (landing-of w reg)
 
 -- what the answers of the parts stand for
-abbrev pub restIs : Want → ExprContext → Operand → Buffers → Result ExprContext
-restIs w e (operand.Constant s k) m = done (with-kind kind.K k e) s m
-restIs w e (operand.Other s) m = reg-of w e s m
-restIs w e (operand.Refused k) m = refused k m
+abbrev pub restIs : Want → ℕ → ExprContext → Operand → Buffers → Result ExprContext
+restIs w reg e (operand.Constant s k) m = done (with-kind kind.K k e) s m
+restIs w reg e (operand.Other s) m = reg-of w reg e s m
+restIs w reg e (operand.Refused k) m = refused k m
 
 abbrev pub spotIs : Want → ExprContext → State → Spot → Buffers → Result ExprContext
 spotIs w e st spot.Stay m = done e st m

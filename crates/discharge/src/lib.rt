@@ -466,14 +466,14 @@ fn place(code: &mut [u32], lines: &mut [u32], st: State, e: ExprContext, reg: us
 
 // ---- what a value is wanted as
 
-// One function brings a value to what is wanted, so that its steps stand once and a call of it copies state and descriptor once.
+// One function brings a value to what is wanted, so that its steps stand once and a call of it copies state and descriptor once. A register that is named goes beside it.
 pub enum Want {
     // no variable any more: `discharge_vars`
     Value,
-    // in this register, its jumps still open: `discharge2reg`
-    Load(usize),
-    // in this register: `exp2reg`
-    Reg(usize),
+    // in the named register, its jumps still open: `discharge2reg`
+    Load,
+    // in the named register: `exp2reg`
+    Reg,
     // in the next register: `exp2nextreg`
     Next,
     // in any register: `exp2anyreg`
@@ -503,8 +503,8 @@ fn only_value(want: Want) -> bool
 {
     match want {
         Want::Value => true,
-        Want::Load(_) => false,
-        Want::Reg(_) => false,
+        Want::Load => false,
+        Want::Reg => false,
         Want::Next => false,
         Want::Any => false,
         Want::Val => false,
@@ -516,7 +516,7 @@ fn only_value(want: Want) -> bool
 
 // A constant above 255 goes to a register.
 fn near(st: State, k: usize) -> Operand
-    ensures { λ r. ⌜ ((e : ExprContext) (m : Buffers) → nearOf e k st m ≡ restIs Rk e r m) ⌝ }
+    ensures { λ r. ⌜ ((e : ExprContext) (m : Buffers) → nearOf e k st m ≡ restIs Rk 0 e r m) ⌝ }
 {
     if fits_rk(k) {
         return Operand::Constant(st, k);
@@ -526,7 +526,7 @@ fn near(st: State, k: usize) -> Operand
 
 // Nil, true or false as a constant, only while the table has at most 255 entries.
 fn small(kinds: &mut [u8], values: &mut [u64], pool: &mut [u8], st: State, v: Val) -> Operand
-    ensures { λ r. ⌜ ((e : ExprContext) (cs ls : List ℕ) → smallOf e (add-constant [] v) st (bufs cs ls (now (kinds .entry)) (now (values .entry)) (now (pool .entry))) ≡ restIs Rk e r (bufs cs ls (now (kinds .exit)) (now (values .exit)) (now (pool .exit)))) ⌝ }
+    ensures { λ r. ⌜ ((e : ExprContext) (cs ls : List ℕ) → smallOf e (add-constant [] v) st (bufs cs ls (now (kinds .entry)) (now (values .entry)) (now (pool .entry))) ≡ restIs Rk 0 e r (bufs cs ls (now (kinds .exit)) (now (values .exit)) (now (pool .exit)))) ⌝ }
 {
     let table = st.table;
     if fits_rk(table.count) {
@@ -547,7 +547,7 @@ fn rk_number(
     st: State,
     e: ExprContext,
 ) -> Operand
-    ensures { λ r. ⌜ ((cs ls : List ℕ) → rk-kind KNum e st (bufs cs ls (now (kinds .entry)) (now (values .entry)) (now (pool .entry))) ≡ restIs Rk e r (bufs cs ls (now (kinds .exit)) (now (values .exit)) (now (pool .exit)))) ⌝ }
+    ensures { λ r. ⌜ ((cs ls : List ℕ) → rk-kind KNum e st (bufs cs ls (now (kinds .entry)) (now (values .entry)) (now (pool .entry))) ≡ restIs Rk 0 e r (bufs cs ls (now (kinds .exit)) (now (values .exit)) (now (pool .exit)))) ⌝ }
 {
     let answer = number_constant(kinds, values, pool, st, e);
     match answer {
@@ -564,7 +564,7 @@ fn rk_kind(
     st: State,
     e: ExprContext,
 ) -> Operand
-    ensures { λ r. ⌜ ((cs ls : List ℕ) → rk-kind (e .kind) e st (bufs cs ls (now (kinds .entry)) (now (values .entry)) (now (pool .entry))) ≡ restIs Rk e r (bufs cs ls (now (kinds .exit)) (now (values .exit)) (now (pool .exit)))) ⌝ }
+    ensures { λ r. ⌜ ((cs ls : List ℕ) → rk-kind (e .kind) e st (bufs cs ls (now (kinds .entry)) (now (values .entry)) (now (pool .entry))) ≡ restIs Rk 0 e r (bufs cs ls (now (kinds .exit)) (now (values .exit)) (now (pool .exit)))) ⌝ }
 {
     if is_kind(e, ExprKind::Nil) {
         return small(kinds, values, pool, st, Val::Nil);
@@ -590,8 +590,8 @@ fn wants_operand(want: Want, e: ExprContext) -> bool
 {
     match want {
         Want::Value => false,
-        Want::Load(_) => false,
-        Want::Reg(_) => false,
+        Want::Load => false,
+        Want::Reg => false,
         Want::Next => false,
         Want::Any => false,
         Want::Val => false,
@@ -608,7 +608,7 @@ fn as_operand(
     e: ExprContext,
     want: Want,
 ) -> Operand
-    ensures { λ r. ⌜ (is-value e ≡ true → (cs ls : List ℕ) → wanted want e st (bufs cs ls (now (kinds .entry)) (now (values .entry)) (now (pool .entry))) ≡ restIs want e r (bufs cs ls (now (kinds .exit)) (now (values .exit)) (now (pool .exit)))) ⌝ }
+    ensures { λ r. ⌜ (is-value e ≡ true → (reg : ℕ) (cs ls : List ℕ) → wanted want reg e st (bufs cs ls (now (kinds .entry)) (now (values .entry)) (now (pool .entry))) ≡ restIs want reg e r (bufs cs ls (now (kinds .exit)) (now (values .exit)) (now (pool .exit)))) ⌝ }
 {
     if wants_operand(want, e) {
         return rk_kind(kinds, values, pool, st, e);
@@ -652,8 +652,8 @@ fn plain(e: ExprContext, want: Want) -> bool
 {
     match want {
         Want::Value => true,
-        Want::Load(_) => false,
-        Want::Reg(_) => false,
+        Want::Load => false,
+        Want::Reg => false,
         Want::Next => false,
         Want::Any => false,
         Want::Val => !has_jumps(e),
@@ -661,15 +661,15 @@ fn plain(e: ExprContext, want: Want) -> bool
     }
 }
 
-fn spot_of(st: State, e: ExprContext, want: Want) -> Spot
-    ensures { λ r. ⌜ (is-value e ≡ true → (m : Buffers) → reg-of want e st m ≡ spotIs want e st r m) ⌝ }
+fn spot_of(st: State, e: ExprContext, want: Want, reg: usize) -> Spot
+    ensures { λ r. ⌜ (is-value e ≡ true → (m : Buffers) → reg-of want reg e st m ≡ spotIs want e st r m) ⌝ }
 {
     if plain(e, want) {
         return Spot::Stay;
     }
     match want {
-        Want::Load(reg) => Spot::At(st, reg),
-        Want::Reg(reg) => Spot::At(st, reg),
+        Want::Load => Spot::At(st, reg),
+        Want::Reg => Spot::At(st, reg),
         Want::Next => next_spot(st, e),
         _ => any_spot(st, e),
     }
@@ -682,8 +682,8 @@ fn keeps_open(want: Want) -> bool
 {
     match want {
         Want::Value => false,
-        Want::Load(_) => true,
-        Want::Reg(_) => false,
+        Want::Load => true,
+        Want::Reg => false,
         Want::Next => false,
         Want::Any => false,
         Want::Val => false,
@@ -739,13 +739,14 @@ fn bring_reg(
     st: State,
     e: ExprContext,
     want: Want,
+    reg: usize,
 ) -> Described
-    ensures { λ r. ⌜ (is-value e ≡ true → reg-of want e st (bufs (now (code .entry)) (now (lines .entry)) (now (kinds .entry)) (now (values .entry)) (now (pool .entry))) ≡ describedIs r (bufs (now (code .exit)) (now (lines .exit)) (now (kinds .exit)) (now (values .exit)) (now (pool .exit)))) ⌝ }
+    ensures { λ r. ⌜ (is-value e ≡ true → reg-of want reg e st (bufs (now (code .entry)) (now (lines .entry)) (now (kinds .entry)) (now (values .entry)) (now (pool .entry))) ≡ describedIs r (bufs (now (code .exit)) (now (lines .exit)) (now (kinds .exit)) (now (values .exit)) (now (pool .exit)))) ⌝ }
 {
-    let to = spot_of(st, e, want);
+    let to = spot_of(st, e, want, reg);
     match to {
         Spot::Stay => Described::Done(st, e),
-        Spot::At(s, reg) => bring_there(code, lines, kinds, values, pool, s, e, reg, want),
+        Spot::At(s, there) => bring_there(code, lines, kinds, values, pool, s, e, there, want),
         Spot::Refused(k) => Described::Refused(k),
     }
 }
@@ -760,13 +761,14 @@ fn bring_value(
     st: State,
     e: ExprContext,
     want: Want,
+    reg: usize,
 ) -> Described
-    ensures { λ r. ⌜ (is-value e ≡ true → wanted want e st (bufs (now (code .entry)) (now (lines .entry)) (now (kinds .entry)) (now (values .entry)) (now (pool .entry))) ≡ describedIs r (bufs (now (code .exit)) (now (lines .exit)) (now (kinds .exit)) (now (values .exit)) (now (pool .exit)))) ⌝ }
+    ensures { λ r. ⌜ (is-value e ≡ true → wanted want reg e st (bufs (now (code .entry)) (now (lines .entry)) (now (kinds .entry)) (now (values .entry)) (now (pool .entry))) ≡ describedIs r (bufs (now (code .exit)) (now (lines .exit)) (now (kinds .exit)) (now (values .exit)) (now (pool .exit)))) ⌝ }
 {
     let first = as_operand(kinds, values, pool, st, e, want);
     match first {
         Operand::Constant(s, k) => Described::Done(s, with_kind(e, ExprKind::K, k)),
-        Operand::Other(s) => bring_reg(code, lines, kinds, values, pool, s, e, want),
+        Operand::Other(s) => bring_reg(code, lines, kinds, values, pool, s, e, want, reg),
         Operand::Refused(k) => Described::Refused(k),
     }
 }
@@ -781,8 +783,9 @@ fn as_wanted(
     st: State,
     e: ExprContext,
     want: Want,
+    reg: usize,
 ) -> Described
-    ensures { λ r. ⌜ (wanted want e st (bufs (now (code .entry)) (now (lines .entry)) (now (kinds .entry)) (now (values .entry)) (now (pool .entry))) ≡ describedIs r (bufs (now (code .exit)) (now (lines .exit)) (now (kinds .exit)) (now (values .exit)) (now (pool .exit)))) × (only-value want ≡ true → (ks vs p : List ℕ) → discharge-vars e st (bufs (now (code .entry)) (now (lines .entry)) ks vs p) ≡ describedIs r (bufs (now (code .exit)) (now (lines .exit)) ks vs p)) ⌝ }
+    ensures { λ r. ⌜ (wanted want reg e st (bufs (now (code .entry)) (now (lines .entry)) (now (kinds .entry)) (now (values .entry)) (now (pool .entry))) ≡ describedIs r (bufs (now (code .exit)) (now (lines .exit)) (now (kinds .exit)) (now (values .exit)) (now (pool .exit)))) × (only-value want ≡ true → (ks vs p : List ℕ) → discharge-vars e st (bufs (now (code .entry)) (now (lines .entry)) ks vs p) ≡ describedIs r (bufs (now (code .exit)) (now (lines .exit)) ks vs p)) ⌝ }
 {
     let answer = discharge_kind(code, lines, st, e);
     match answer {
@@ -790,7 +793,7 @@ fn as_wanted(
             if only_value(want) {
                 return Described::Done(s, d);
             }
-            bring_value(code, lines, kinds, values, pool, s, d, want)
+            bring_value(code, lines, kinds, values, pool, s, d, want, reg)
         }
         Described::Refused(k) => Described::Refused(k),
     }
@@ -800,23 +803,21 @@ fn as_wanted(
 
 // State and descriptor go to `bring_fields` number by number, and it gives back only what may have changed:
 // a struct goes through memory, and the machine waits for what is copied as soon as it is written.
-struct Change {
-    pc: usize,
-    count: usize,
-    used: usize,
-    free: usize,
-    frame: usize,
-    jpc: usize,
-    label: usize,
-    info: usize,
-    t: usize,
-    f: usize,
-    kind: ExprKind,
-}
-
 enum Brought {
     Refused(Refusal),
-    Done(Change),
+    Done {
+        kind: ExprKind,
+        pc: usize,
+        count: usize,
+        used: usize,
+        free: usize,
+        frame: usize,
+        jpc: usize,
+        label: usize,
+        info: usize,
+        t: usize,
+        f: usize,
+    },
 }
 
 // What may have changed.
@@ -827,7 +828,8 @@ fn changes(answer: Described) -> Brought
         Described::Done(s, e) => {
             let table = s.table;
             let kind = e.kind;
-            Brought::Done(Change {
+            Brought::Done {
+                kind,
                 pc: s.pc,
                 count: table.count,
                 used: table.used,
@@ -838,8 +840,7 @@ fn changes(answer: Described) -> Brought
                 info: e.info,
                 t: e.t,
                 f: e.f,
-                kind,
-            })
+            }
         }
         Described::Refused(k) => Brought::Refused(k),
     }
@@ -850,32 +851,40 @@ fn changed(answer: Brought, st: State, e: ExprContext) -> Described
     ensures { λ r. ⌜ changedOf answer st e ≡ r ⌝ }
 {
     match answer {
-        Brought::Done(c) => {
-            let table = Table {
-                count: c.count,
-                used: c.used,
-            };
-            let kind = c.kind;
+        Brought::Done {
+            kind,
+            pc,
+            count,
+            used,
+            free,
+            frame,
+            jpc,
+            label,
+            info,
+            t,
+            f,
+        } => {
+            let table = Table { count, used };
             Described::Done(
                 State {
                     at: st.at,
                     line: st.line,
-                    pc: c.pc,
+                    pc,
                     table,
                     active: st.active,
-                    free: c.free,
-                    frame: c.frame,
-                    jpc: c.jpc,
-                    label: c.label,
+                    free,
+                    frame,
+                    jpc,
+                    label,
                 },
                 ExprContext {
                     kind,
-                    info: c.info,
+                    info,
                     aux: e.aux,
                     number: e.number,
                     bits: e.bits,
-                    t: c.t,
-                    f: c.f,
+                    t,
+                    f,
                 },
             )
         }
@@ -907,8 +916,9 @@ fn bring_fields(
     t: usize,
     f: usize,
     want: Want,
+    reg: usize,
 ) -> Brought
-    ensures { λ r. ⌜ ((s : State) (e : ExprContext) → stateOf at line pc count used active free frame jpc label ≡ s → contextOf kind info aux number bits t f ≡ e → (wanted want e s (bufs (now (code .entry)) (now (lines .entry)) (now (kinds .entry)) (now (values .entry)) (now (pool .entry))) ≡ describedIs (changedOf r s e) (bufs (now (code .exit)) (now (lines .exit)) (now (kinds .exit)) (now (values .exit)) (now (pool .exit)))) × (only-value want ≡ true → (ks vs p : List ℕ) → discharge-vars e s (bufs (now (code .entry)) (now (lines .entry)) ks vs p) ≡ describedIs (changedOf r s e) (bufs (now (code .exit)) (now (lines .exit)) ks vs p))) ⌝ }
+    ensures { λ r. ⌜ ((s : State) (e : ExprContext) → stateOf at line pc count used active free frame jpc label ≡ s → contextOf kind info aux number bits t f ≡ e → (wanted want reg e s (bufs (now (code .entry)) (now (lines .entry)) (now (kinds .entry)) (now (values .entry)) (now (pool .entry))) ≡ describedIs (changedOf r s e) (bufs (now (code .exit)) (now (lines .exit)) (now (kinds .exit)) (now (values .exit)) (now (pool .exit)))) × (only-value want ≡ true → (ks vs p : List ℕ) → discharge-vars e s (bufs (now (code .entry)) (now (lines .entry)) ks vs p) ≡ describedIs (changedOf r s e) (bufs (now (code .exit)) (now (lines .exit)) ks vs p))) ⌝ }
 {
     let table = Table { count, used };
     let st = State {
@@ -931,7 +941,7 @@ fn bring_fields(
         t,
         f,
     };
-    changes(as_wanted(code, lines, kinds, values, pool, st, e, want))
+    changes(as_wanted(code, lines, kinds, values, pool, st, e, want, reg))
 }
 
 // A descriptor becomes what is wanted.
@@ -944,8 +954,9 @@ pub fn bring(
     st: State,
     e: ExprContext,
     want: Want,
+    reg: usize,
 ) -> Described
-    ensures { λ r. ⌜ wanted want e st (bufs (now (code .entry)) (now (lines .entry)) (now (kinds .entry)) (now (values .entry)) (now (pool .entry))) ≡ describedIs r (bufs (now (code .exit)) (now (lines .exit)) (now (kinds .exit)) (now (values .exit)) (now (pool .exit))) ⌝ }
+    ensures { λ r. ⌜ wanted want reg e st (bufs (now (code .entry)) (now (lines .entry)) (now (kinds .entry)) (now (values .entry)) (now (pool .entry))) ≡ describedIs r (bufs (now (code .exit)) (now (lines .exit)) (now (kinds .exit)) (now (values .exit)) (now (pool .exit))) ⌝ }
 {
     let table = st.table;
     let kind = e.kind;
@@ -973,6 +984,7 @@ pub fn bring(
         e.t,
         e.f,
         want,
+        reg,
     );
     changed(answer, st, e)
 }
@@ -1012,6 +1024,7 @@ pub fn discharge_vars(code: &mut [u32], lines: &mut [u32], st: State, e: ExprCon
         e.t,
         e.f,
         Want::Value,
+        0,
     );
     changed(answer, st, e)
 }
@@ -1028,7 +1041,7 @@ pub fn discharge2reg(
 ) -> Described
     ensures { λ r. ⌜ discharge2regOf e reg st (bufs (now (code .entry)) (now (lines .entry)) (now (kinds .entry)) (now (values .entry)) (now (pool .entry))) ≡ describedIs r (bufs (now (code .exit)) (now (lines .exit)) (now (kinds .exit)) (now (values .exit)) (now (pool .exit))) ⌝ }
 {
-    bring(code, lines, kinds, values, pool, st, e, Want::Load(reg))
+    bring(code, lines, kinds, values, pool, st, e, Want::Load, reg)
 }
 
 pub fn discharge2anyreg(
@@ -1064,7 +1077,7 @@ pub fn exp2reg(
 ) -> Described
     ensures { λ r. ⌜ exp2regOf e reg st (bufs (now (code .entry)) (now (lines .entry)) (now (kinds .entry)) (now (values .entry)) (now (pool .entry))) ≡ describedIs r (bufs (now (code .exit)) (now (lines .exit)) (now (kinds .exit)) (now (values .exit)) (now (pool .exit))) ⌝ }
 {
-    bring(code, lines, kinds, values, pool, st, e, Want::Reg(reg))
+    bring(code, lines, kinds, values, pool, st, e, Want::Reg, reg)
 }
 
 pub fn exp2nextreg(
@@ -1078,7 +1091,7 @@ pub fn exp2nextreg(
 ) -> Described
     ensures { λ r. ⌜ exp2nextregOf e st (bufs (now (code .entry)) (now (lines .entry)) (now (kinds .entry)) (now (values .entry)) (now (pool .entry))) ≡ describedIs r (bufs (now (code .exit)) (now (lines .exit)) (now (kinds .exit)) (now (values .exit)) (now (pool .exit))) ⌝ }
 {
-    bring(code, lines, kinds, values, pool, st, e, Want::Next)
+    bring(code, lines, kinds, values, pool, st, e, Want::Next, 0)
 }
 
 // The register is then the descriptor's info.
@@ -1093,7 +1106,7 @@ pub fn exp2anyreg(
 ) -> Described
     ensures { λ r. ⌜ exp2anyregOf e st (bufs (now (code .entry)) (now (lines .entry)) (now (kinds .entry)) (now (values .entry)) (now (pool .entry))) ≡ describedIs r (bufs (now (code .exit)) (now (lines .exit)) (now (kinds .exit)) (now (values .exit)) (now (pool .exit))) ⌝ }
 {
-    bring(code, lines, kinds, values, pool, st, e, Want::Any)
+    bring(code, lines, kinds, values, pool, st, e, Want::Any, 0)
 }
 
 pub fn exp2val(
@@ -1107,7 +1120,7 @@ pub fn exp2val(
 ) -> Described
     ensures { λ r. ⌜ exp2valOf e st (bufs (now (code .entry)) (now (lines .entry)) (now (kinds .entry)) (now (values .entry)) (now (pool .entry))) ≡ describedIs r (bufs (now (code .exit)) (now (lines .exit)) (now (kinds .exit)) (now (values .exit)) (now (pool .exit))) ⌝ }
 {
-    bring(code, lines, kinds, values, pool, st, e, Want::Val)
+    bring(code, lines, kinds, values, pool, st, e, Want::Val, 0)
 }
 
 // A constant up to 255, or a register.
@@ -1122,5 +1135,5 @@ pub fn exp2rk(
 ) -> Described
     ensures { λ r. ⌜ exp2rkOf e st (bufs (now (code .entry)) (now (lines .entry)) (now (kinds .entry)) (now (values .entry)) (now (pool .entry))) ≡ describedIs r (bufs (now (code .exit)) (now (lines .exit)) (now (kinds .exit)) (now (values .exit)) (now (pool .exit))) ⌝ }
 {
-    bring(code, lines, kinds, values, pool, st, e, Want::Rk)
+    bring(code, lines, kinds, values, pool, st, e, Want::Rk, 0)
 }

@@ -26,12 +26,12 @@ returns c =
     let p10 = p6 .before .before .before .before in
     let p11 = p10 .before in
     let p15 = p11 .before .before .before .before in
-    λ v cs ls. operand-wanted ((p15 .args .want)) _ _ _ ((p6 .rk-kind .result)) _ v ((p11 .wants-operand .ensures) ∙ (p10 .if1 .taken)) ((p6 .rk-kind .ensures) cs ls)
+    λ v reg cs ls. operand-wanted ((p15 .args .want)) reg _ _ _ ((p6 .rk-kind .result)) _ v ((p11 .wants-operand .ensures) ∙ (p10 .if1 .taken)) ((p6 .rk-kind .ensures) cs ls)
 
 returns-2 : tie.Need-returns-2
 returns-2 c =
     let p5 = c .before .before .before .before .before in
-    λ v cs ls. other-wanted ((p5 .args .want)) ((p5 .args .e)) ((p5 .args .st)) _ ((c .before .wants-operand .ensures) ∙ (c .if1 .left))
+    λ v reg cs ls. other-wanted ((p5 .args .want)) reg ((p5 .args .e)) ((p5 .args .st)) _ ((c .before .wants-operand .ensures) ∙ (c .if1 .left))
 
 pub as-operand-spec : {M : Type 1} → statement M
 as-operand-spec =

@@ -28,7 +28,7 @@ returns c =
     let p3 = c .before .before .before in
     let p9 = p3 .before .before .before .before .before .before in
     let p17 = p9 .before .before .before .before .before .before .before .before in
-    (value-done _ ((p17 .args .st)) _ (described-told ((p9 .discharge-kind .result)) _ ((p9 .discharge-kind .ensures) _ _ _) ((p3 .answer .given .1))) ((p17 .args .want)) ((c .before .only-value .ensures) ∙ (c .if1 .taken)), λ _ ks vs p. described-told ((p9 .discharge-kind .result)) _ ((p9 .discharge-kind .ensures) ks vs p) ((p3 .answer .given .1)))
+    (value-done _ ((p17 .args .st)) _ (described-told ((p9 .discharge-kind .result)) _ ((p9 .discharge-kind .ensures) _ _ _) ((p3 .answer .given .1))) ((p17 .args .want)) ((p17 .args .reg)) ((c .before .only-value .ensures) ∙ (c .if1 .taken)), λ _ ks vs p. described-told ((p9 .discharge-kind .result)) _ ((p9 .discharge-kind .ensures) ks vs p) ((p3 .answer .given .1)))
 
 bring-value-requires : tie.Need-bring-value-requires
 bring-value-requires c κs = search needs
@@ -59,7 +59,7 @@ returns-2 c =
     let p19 = p17 .before .before in
     let p25 = p19 .before .before .before .before .before .before in
     let p33 = p25 .before .before .before .before .before .before .before .before in
-    (wanted-done _ ((p33 .args .st)) _ (described-told ((p25 .discharge-kind .result)) _ ((p25 .discharge-kind .ensures) _ _ _) ((p19 .answer .given .1))) ((p33 .args .want)) ∙ (p10 .bring-value .ensures) (told-value _ ((p33 .args .st)) _ (described-told ((p25 .discharge-kind .result)) _ ((p25 .discharge-kind .ensures) [] [] []) ((p19 .answer .given .1)))), λ q. absurd (false≢true (sym ((p17 .only-value .ensures) ∙ (p16 .if1 .left)) ∙ q)))
+    (wanted-done _ ((p33 .args .st)) _ (described-told ((p25 .discharge-kind .result)) _ ((p25 .discharge-kind .ensures) _ _ _) ((p19 .answer .given .1))) ((p33 .args .want)) ((p33 .args .reg)) ∙ (p10 .bring-value .ensures) (told-value _ ((p33 .args .st)) _ (described-told ((p25 .discharge-kind .result)) _ ((p25 .discharge-kind .ensures) [] [] []) ((p19 .answer .given .1)))), λ q. absurd (false≢true (sym ((p17 .only-value .ensures) ∙ (p16 .if1 .left)) ∙ q)))
 
 same-length-8 : tie.Need-same-length-8
 same-length-8 c = search needs
@@ -71,7 +71,7 @@ returns-3 : tie.Need-returns-3
 returns-3 c =
     let p7 = c .before .before .before .before .before .before .before in
     let p15 = p7 .before .before .before .before .before .before .before .before in
-    (wanted-refused _ ((p15 .args .st)) _ (described-told ((p7 .discharge-kind .result)) _ ((p7 .discharge-kind .ensures) _ _ _) ((c .before .answer2 .given .1))) ((p15 .args .want)), λ _ ks vs p. described-told ((p7 .discharge-kind .result)) _ ((p7 .discharge-kind .ensures) ks vs p) ((c .before .answer2 .given .1)))
+    (wanted-refused _ ((p15 .args .st)) _ (described-told ((p7 .discharge-kind .result)) _ ((p7 .discharge-kind .ensures) _ _ _) ((c .before .answer2 .given .1))) ((p15 .args .want)) ((p15 .args .reg)), λ _ ks vs p. described-told ((p7 .discharge-kind .result)) _ ((p7 .discharge-kind .ensures) ks vs p) ((c .before .answer2 .given .1)))
 
 pub as-wanted-spec : {M : Type 1} → statement M
 as-wanted-spec =

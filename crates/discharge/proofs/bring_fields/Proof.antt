@@ -32,7 +32,7 @@ returns : tie.Need-returns
 returns c =
     let p11 = c .before .before .before .before .before .before .before .before .before .before .before in
     let p22 = p11 .before .before .before .before .before .before .before .before .before .before .before in
-    let back = wanted-kept (p22 .args .want) _ _ _ _ (p11 .as-wanted .result) (p11 .as-wanted .ensures .0) in
+    let back = wanted-kept (p22 .args .want) (p22 .args .reg) _ _ _ _ (p11 .as-wanted .result) (p11 .as-wanted .ensures .0) in
     λ s e hs he. rw (← hs, ← he, ← (c .changes .ensures), back) ((p11 .as-wanted .ensures))
 
 pub bring-fields-spec : {M : Type 1} → statement M

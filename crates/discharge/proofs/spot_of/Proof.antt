@@ -27,30 +27,30 @@ none-between : (n : ℕ) → 0 < n → n < 4 → OneOf (0 ∷ 4 ∷ 5 ∷ 6 ∷ 
 none-between n a b = ⊎-elim (λ x. omega arith) (⊎-elim (λ x. omega arith) (⊎-elim (λ x. omega arith) (λ x. omega arith)))
 
 -- the last three go to any register
-anywhere-else : (w : Want) (e : ExprContext) (s : State) (r : Spot) (m : Buffers) → OneOf (0 ∷ 4 ∷ 5 ∷ 6 ∷ []) (tagOf the-type w) → is-plain w e ≡ false →
-    exp2anyreg e s m ≡ spotIs Next e s r m → reg-of w e s m ≡ spotIs w e s r m
-anywhere-else Value e s r m k q h = absurd (true≢false q)
-anywhere-else (Load reg) e s r m k q h = absurd (none-between 1 (omega arith) (omega arith) k)
-anywhere-else (Reg reg) e s r m k q h = absurd (none-between 2 (omega arith) (omega arith) k)
-anywhere-else Next e s r m k q h = absurd (none-between 3 (omega arith) (omega arith) k)
-anywhere-else Any e s r m k q h = h ∙ spot-as Any e s r m refl
-anywhere-else Val e s r m k q h = val-jumps e s m (some-jumps _ q) ∙ h ∙ spot-as Val e s r m refl
-anywhere-else Rk e s r m k q h = h ∙ spot-as Rk e s r m refl
+anywhere-else : (w : Want) (reg : ℕ) (e : ExprContext) (s : State) (r : Spot) (m : Buffers) → OneOf (0 ∷ 4 ∷ 5 ∷ 6 ∷ []) (tagOf the-type w) → is-plain w e ≡ false →
+    exp2anyreg e s m ≡ spotIs Next e s r m → reg-of w reg e s m ≡ spotIs w e s r m
+anywhere-else Value reg e s r m k q h = absurd (true≢false q)
+anywhere-else Load reg e s r m k q h = absurd (none-between 1 (omega arith) (omega arith) k)
+anywhere-else Reg reg e s r m k q h = absurd (none-between 2 (omega arith) (omega arith) k)
+anywhere-else Next reg e s r m k q h = absurd (none-between 3 (omega arith) (omega arith) k)
+anywhere-else Any reg e s r m k q h = h ∙ spot-as Any e s r m refl
+anywhere-else Val reg e s r m k q h = val-jumps e s m (some-jumps _ q) ∙ h ∙ spot-as Val e s r m refl
+anywhere-else Rk reg e s r m k q h = h ∙ spot-as Rk e s r m refl
 
 plain-requires : tie.Need-plain-requires
 plain-requires c κs = search needs
 
 returns : tie.Need-returns
-returns c = λ v m. plain-stays ((c .before .before .args .want)) _ _ m v ((c .before .plain .ensures) ∙ (c .if1 .taken))
-
-enum-known-want : tie.Need-enum-known-want
-enum-known-want c = search needs
-
-enum-known-want-2 : tie.Need-enum-known-want-2
-enum-known-want-2 c = search needs
+returns c = λ v m. plain-stays ((c .before .before .args .want)) _ _ _ m v ((c .before .plain .ensures) ∙ (c .if1 .taken))
 
 enum-told : tie.Need-enum-told
 enum-told c = search needs
+
+enum-told-2 : tie.Need-enum-told-2
+enum-told-2 c = search needs
+
+enum-told-3 : tie.Need-enum-told-3
+enum-told-3 c = search needs
 
 next-spot-requires : tie.Need-next-spot-requires
 next-spot-requires c κs = search needs
@@ -60,24 +60,24 @@ any-spot-requires c κs = search needs
 
 returns-2 : tie.Need-returns-2
 returns-2 c =
-    let p5 = c .before .before .before .before .before in
-    λ v m. as-told ((p5 .args .want)) ((p5 .args .e)) ((p5 .args .st)) (spot.At _ _) m ((c .before .want .given .1)) (load-at ((p5 .args .e)) ((p5 .args .st)) m v _)
+    let p4 = c .before .before .before .before in
+    λ v m. as-told ((p4 .args .want)) ((p4 .args .reg)) ((p4 .args .e)) ((p4 .args .st)) (spot.At _ _) m ((c .enum-told .given .1)) (load-at ((p4 .args .e)) ((p4 .args .st)) m v _)
 
 returns-3 : tie.Need-returns-3
 returns-3 c =
-    let p5 = c .before .before .before .before .before in
-    λ v m. as-told ((p5 .args .want)) ((p5 .args .e)) ((p5 .args .st)) (spot.At _ _) m ((c .before .want2 .given .1)) (reg-at ((p5 .args .e)) ((p5 .args .st)) m v _)
+    let p4 = c .before .before .before .before in
+    λ v m. as-told ((p4 .args .want)) ((p4 .args .reg)) ((p4 .args .e)) ((p4 .args .st)) (spot.At _ _) m ((c .enum-told2 .given .1)) (reg-at ((p4 .args .e)) ((p4 .args .st)) m v _)
 
 returns-4 : tie.Need-returns-4
 returns-4 c =
     let p5 = c .before .before .before .before .before in
-    λ v m. as-told ((p5 .args .want)) ((p5 .args .e)) ((p5 .args .st)) ((c .next-spot .result)) m ((c .before .enum-told .given .1)) ((c .next-spot .ensures) v m)
+    λ v m. as-told ((p5 .args .want)) ((p5 .args .reg)) ((p5 .args .e)) ((p5 .args .st)) ((c .next-spot .result)) m ((c .before .enum-told3 .given .1)) ((c .next-spot .ensures) v m)
 
 returns-5 : tie.Need-returns-5
 returns-5 c =
     let p3 = c .before .before .before in
     let p4 = p3 .before in
-    λ v m. anywhere-else ((p4 .args .want)) ((p4 .args .e)) ((p4 .args .st)) ((c .any-spot .result)) m ((c .before .match .keys4)) ((p3 .plain .ensures) ∙ (c .before .before .if1 .left)) ((c .any-spot .ensures) v m)
+    λ v m. anywhere-else ((p4 .args .want)) ((p4 .args .reg)) ((p4 .args .e)) ((p4 .args .st)) ((c .any-spot .result)) m ((c .before .match .keys4)) ((p3 .plain .ensures) ∙ (c .before .before .if1 .left)) ((c .any-spot .ensures) v m)
 
 pub spot-of-spec : {M : Type 1} → statement M
 spot-of-spec =
@@ -85,9 +85,9 @@ spot-of-spec =
     (tie.spec
     plain-requires
     returns
-    enum-known-want
-    enum-known-want-2
     enum-told
+    enum-told-2
+    enum-told-3
     next-spot-requires
     any-spot-requires
     returns-2
