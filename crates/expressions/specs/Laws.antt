@@ -8,7 +8,6 @@ use Rattle.ast.specs.declared.BinOp.{BinOp}
 use Rattle.ast.specs.declared.UnOp.{UnOp}
 use Rattle.ast.specs.declared.One.the-variants as one
 use Rattle.ast.specs.declared.Two.the-variants as two
-use Rattle.ast.specs.declared.Head.{Head}
 use Rattle.chunk.specs.declared.header.Header.{Header}
 use Rattle.model.specs.declared.ExprContext.{ExprContext}
 use Rattle.model.specs.declared.State.{State}
@@ -20,7 +19,6 @@ use Rattle.model.specs.Operators.{before-right, after-right, code-unop}
 use Rattle.model.specs.Expressions.{set-indexed, after-one, between, after-two}
 use Rattle.emission.specs.Laws.{then-done, then-refused}
 use Rattle.calls.specs.Laws.{keyed}
-use Rattle.expressions.specs.Parts.{first-of}
 
 -- an answer of a descriptor goes on, or is refused
 module _ (f : ExprContext → Step ExprContext) (m : Buffers) {a : Described} where
@@ -60,8 +58,3 @@ module _ (chunk : List ℕ) (h : Header) where
     pub two-index : after-two chunk h two.Index e₁ e₂ s m ≡ set-indexed e₁ e₂ s m
     unfolding after-two
     two-index = refl
-
-  -- behind the first sub-expression of a node of a known kind
-  pub first-told : (m : Buffers) {a : Described} {x y : Head} {t : State} {e : ExprContext} {r : Result ExprContext} →
-      a ≡ described.Done t e → x ≡ y → first-of chunk h y e t m ≡ r → andThen (describedIs a m) (first-of chunk h x) ≡ r
-  first-told m {x = x} {t = t} {e = e} q w z = goes-on (first-of chunk h x) m q (ap (λ (v : Head). first-of chunk h v e t m) w ∙ z)

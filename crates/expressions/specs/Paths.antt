@@ -18,49 +18,21 @@ use Rattle.nodes.specs.declared.node.NodeRead.the-variants as read
 use Rattle.chunk.specs.declared.header.Header.{Header}
 use Rattle.model.specs.declared.ExprContext.{ExprContext}
 use Rattle.model.specs.declared.State.{State}
-use Rattle.model.specs.Steps.{Buffers, Step, Result, done, refused, andThen, _>>=_, return, get}
+use Rattle.model.specs.Steps.{Buffers, Step, Result, done, refused, andThen, _>>=_, get}
 use Rattle.model.specs.Emission.{with-place}
 use Rattle.model.specs.Discharge.{exp2nextreg}
-use Rattle.model.specs.Expressions.{closed-call, last-argument, compile-funcargs, leaf-expr, after-two, compile-head, compile-node, compile-expr}
+use Rattle.model.specs.Expressions.{closed-call, last-argument, compile-funcargs, leaf-expr, after-one, between, callee, after-two, compile-head, compile-node, compile-expr}
 use Rattle.emission.specs.Laws.{then-done, then-refused}
-use Rattle.expressions.specs.Parts.{first-of}
 
 -- ---- an expression
 
--- steps in a row may be taken together, and giving what was given is no step
+-- steps in a row may be taken together
 together : {A B C : Type 0} (x : Result A) (f : A → Step B) (g : B → Step C) → andThen x (λ (a : A) (s : State) (m : Buffers). andThen (f a s m) g) ≡ andThen (andThen x f) g
 unfolding andThen
 together (done a s m) f g = refl
 together (refused k m) f g = refl
 
-given : {A : Type 0} (x : Result A) → x ≡ andThen x (λ (a : A). return a)
-unfolding andThen
-given (done a s m) = refl
-given (refused k m) = refl
-
 module _ (chunk : List ℕ) (h : Header) where
-  -- what follows the first sub-expression and what belongs to it
-  abbrev rest-of : Step ExprContext → Head → ExprContext → Step ExprContext
-  rest-of f (head.Leaf l) e = return e
-  rest-of f (head.One o) e = return e
-  rest-of f (head.Two t) e = do
-    d ← f
-    after-two chunk h t e d
-  rest-of f (head.Many m n) e = do
-    s ← get
-    compile-funcargs f e (s .line) n
-
-  abbrev Inner : Head → Type 0
-  Inner x = (l : Leaf) → x ≡ head.Leaf l → ⊥
-
-  -- a node that is no leaf: its first sub-expression, and the rest
-  in-turn : (f : Step ExprContext) (x : Head) (s : State) (m : Buffers) → Inner x → compile-head chunk h f x s m ≡ andThen (andThen (f s m) (first-of chunk h x)) (rest-of f x)
-  unfolding compile-head
-  in-turn f (head.Leaf l) s m i = absurd (i l refl)
-  in-turn f (head.One o) s m i = given _
-  in-turn f (head.Two t) s m i = together (f s m) (first-of chunk h (head.Two t)) (rest-of f (head.Two t))
-  in-turn f (head.Many x n) s m i = together (f s m) (first-of chunk h (head.Many x n)) (rest-of f (head.Many x n))
-
   module _ (left : ℕ) (s : State) (m : Buffers) where
     pub expr-none : left ≡ 0 → compile-expr chunk h left s m ≡ refused Nesting m
     unfolding compile-expr
@@ -93,33 +65,49 @@ module _ (chunk : List ℕ) (h : Header) where
         unfolding compile-head
         expr-leaf i z = headed ∙ ap lowered i ∙ z
 
-        module _ (inner : Inner (d .head)) {y : Result ExprContext} (f : compile-expr chunk h (left - 1) u m ≡ y) where
-          abbrev onward : Head → ExprContext → Step ExprContext
-          onward x = rest-of (compile-expr chunk h (left - 1)) x
+        -- the first sub-expression, what belongs to it, and the rest
+        module _ {y : Result ExprContext} (f : compile-expr chunk h (left - 1) u m ≡ y) where
+          firsts : {x : Head} (g : ExprContext → Step ExprContext) → d .head ≡ x → lowered x ≡ andThen (compile-expr chunk h (left - 1) u m) g → compile-expr chunk h left s m ≡ andThen y g
+          firsts g i z = headed ∙ ap lowered i ∙ z ∙ ap (λ (v : Result ExprContext). andThen v g) f
 
-          firsts : compile-expr chunk h left s m ≡ andThen (andThen y (first-of chunk h (d .head))) (onward (d .head))
-          firsts =
-              headed
-              ∙ in-turn (compile-expr chunk h (left - 1)) (d .head) u m inner
-              ∙ ap (λ (v : Result ExprContext). andThen (andThen v (first-of chunk h (d .head))) (onward (d .head))) f
+          pub expr-one : {x : One} {r : Result ExprContext} → d .head ≡ head.One x → andThen y (after-one chunk h x) ≡ r → compile-expr chunk h left s m ≡ r
+          unfolding compile-head
+          expr-one {x} i z = firsts (after-one chunk h x) i refl ∙ z
 
-          pub expr-stopped : {r : Refusal} {o : Buffers} → andThen y (first-of chunk h (d .head)) ≡ refused r o → compile-expr chunk h left s m ≡ refused r o
-          expr-stopped g = firsts ∙ then-refused (onward (d .head)) g
+          module _ {x : Two} (i : d .head ≡ head.Two x) where
+            abbrev right : ExprContext → Step ExprContext
+            right e₁ = do
+              e₂ ← compile-expr chunk h (left - 1)
+              after-two chunk h x e₁ e₂
 
-          module _ {e : ExprContext} {t : State} {o : Buffers} (g : andThen y (first-of chunk h (d .head)) ≡ done e t o) where
-            told : {x : Head} {r : Result ExprContext} → d .head ≡ x → onward x e t o ≡ r → compile-expr chunk h left s m ≡ r
-            told i z = firsts ∙ then-done (onward (d .head)) g ∙ ap (λ (x : Head). onward x e t o) i ∙ z
+            two : compile-expr chunk h left s m ≡ andThen (andThen y (between chunk h x)) right
+            unfolding compile-head
+            two = firsts _ i refl ∙ together y (between chunk h x) right
 
-            pub expr-one : {x : One} → d .head ≡ head.One x → compile-expr chunk h left s m ≡ done e t o
-            expr-one i = told i refl
+            pub expr-two-stopped : {r : Refusal} {o : Buffers} → andThen y (between chunk h x) ≡ refused r o → compile-expr chunk h left s m ≡ refused r o
+            expr-two-stopped g = two ∙ then-refused right g
 
-            pub expr-two : {x : Two} {v r : Result ExprContext} → d .head ≡ head.Two x → compile-expr chunk h (left - 1) t o ≡ v → andThen v (after-two chunk h x e) ≡ r → compile-expr chunk h left s m ≡ r
-            expr-two {x} i c z = told i (ap (λ (w : Result ExprContext). andThen w (after-two chunk h x e)) c ∙ z)
+            pub expr-two : {e : ExprContext} {t : State} {o : Buffers} {v r : Result ExprContext} → andThen y (between chunk h x) ≡ done e t o →
+                compile-expr chunk h (left - 1) t o ≡ v → andThen v (after-two chunk h x e) ≡ r → compile-expr chunk h left s m ≡ r
+            expr-two {e} g c z = two ∙ then-done right g ∙ ap (λ (w : Result ExprContext). andThen w (after-two chunk h x e)) c ∙ z
 
-            pub expr-many : {x : Many} {c : ℕ} {r : Result ExprContext} → d .head ≡ head.Many x c →
+          module _ {x : Many} {c : ℕ} (i : d .head ≡ head.Many x c) where
+            abbrev arguments : ExprContext → Step ExprContext
+            arguments func = do
+              t ← get
+              compile-funcargs (compile-expr chunk h (left - 1)) func (t .line) c
+
+            many : compile-expr chunk h left s m ≡ andThen (andThen y (callee chunk h x)) arguments
+            unfolding compile-head
+            many = firsts _ i refl ∙ together y (callee chunk h x) arguments
+
+            pub expr-many-stopped : {r : Refusal} {o : Buffers} → andThen y (callee chunk h x) ≡ refused r o → compile-expr chunk h left s m ≡ refused r o
+            expr-many-stopped g = many ∙ then-refused arguments g
+
+            pub expr-many : {e : ExprContext} {t : State} {o : Buffers} {r : Result ExprContext} → andThen y (callee chunk h x) ≡ done e t o →
                 compile-funcargs (compile-expr chunk h (left - 1)) e (t .line) c t o ≡ r → compile-expr chunk h left s m ≡ r
             unfolding andThen
-            expr-many i z = told i z
+            expr-many g z = many ∙ then-done arguments g ∙ z
 
 -- ---- arguments
 

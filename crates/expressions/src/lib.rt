@@ -1,14 +1,14 @@
 // Expressions and argument lists, which call each other over the chunk's bytes: rilua's `compile_expr` and `compile_funcargs`.
-// Each node that has sub-expressions begins with its first one; the kinds of node are told apart outside the recursion. Nesting falls from node to sub-expression.
+// Each node that has sub-expressions begins with its first one; what follows a sub-expression stands outside the recursion. Nesting falls from node to sub-expression.
 ghost use mathlib.Core.List.{List};
 ghost use mathlib.Core.Path.{_≡_};
 ghost use Prim.Native.Nat.{ℕ};
 ghost use Rattle.chunk.specs.declared.header.Header.{Header};
 ghost use Rattle.model.specs.Steps.{andThen, describedIs, bufs};
 ghost use Rattle.model.specs.Emission.{with-place};
-ghost use Rattle.model.specs.Expressions.{after-one, between as betweenOf, after-two, compile-expr, compile-funcargs};
-ghost use Rattle.expressions.specs.Parts.{first-of};
+ghost use Rattle.model.specs.Expressions.{after-one, between as betweenOf, callee as calleeOf, after-two, compile-expr, compile-funcargs};
 use ast::Head;
+use ast::Many;
 use ast::One;
 use ast::Two;
 use calls::callee;
@@ -111,8 +111,8 @@ pub fn after_two(
     }
 }
 
-// Behind the first sub-expression of a node.
-fn after_first(
+// Each of these behind an answer: a refusal is passed on.
+fn then_one(
     chunk: &[u8],
     code: &mut [u32],
     lines: &mut [u32],
@@ -120,23 +120,52 @@ fn after_first(
     values: &mut [u64],
     pool: &mut [u8],
     first: Described,
-    head: Head,
+    o: One,
 ) -> Described
-    ensures { λ r. ⌜ ((h : Header) → andThen (describedIs first (bufs (now (code .entry)) (now (lines .entry)) (now (kinds .entry)) (now (values .entry)) (now (pool .entry)))) (first-of (now (chunk .entry)) h head) ≡ describedIs r (bufs (now (code .exit)) (now (lines .exit)) (now (kinds .exit)) (now (values .exit)) (now (pool .exit)))) ⌝ }
+    ensures { λ r. ⌜ ((h : Header) → andThen (describedIs first (bufs (now (code .entry)) (now (lines .entry)) (now (kinds .entry)) (now (values .entry)) (now (pool .entry)))) (after-one (now (chunk .entry)) h o) ≡ describedIs r (bufs (now (code .exit)) (now (lines .exit)) (now (kinds .exit)) (now (values .exit)) (now (pool .exit)))) ⌝ }
 {
     match first {
-        Described::Done(s, e) => match head {
-            Head::Leaf(_) => Described::Done(s, e),
-            Head::One(o) => after_one(chunk, code, lines, kinds, values, pool, s, o, e),
-            Head::Two(t) => between(code, lines, kinds, values, pool, s, t, e),
-            Head::Many(m, _) => callee(chunk, code, lines, kinds, values, pool, s, m, e),
-        },
+        Described::Done(s, e) => after_one(chunk, code, lines, kinds, values, pool, s, o, e),
         Described::Refused(k) => Described::Refused(k),
     }
 }
 
-// Behind the second.
-fn after_second(
+fn then_between(
+    code: &mut [u32],
+    lines: &mut [u32],
+    kinds: &mut [u8],
+    values: &mut [u64],
+    pool: &mut [u8],
+    first: Described,
+    t: Two,
+) -> Described
+    ensures { λ r. ⌜ ((chunk : List ℕ) (h : Header) → andThen (describedIs first (bufs (now (code .entry)) (now (lines .entry)) (now (kinds .entry)) (now (values .entry)) (now (pool .entry)))) (betweenOf chunk h t) ≡ describedIs r (bufs (now (code .exit)) (now (lines .exit)) (now (kinds .exit)) (now (values .exit)) (now (pool .exit)))) ⌝ }
+{
+    match first {
+        Described::Done(s, e) => between(code, lines, kinds, values, pool, s, t, e),
+        Described::Refused(k) => Described::Refused(k),
+    }
+}
+
+fn then_callee(
+    chunk: &[u8],
+    code: &mut [u32],
+    lines: &mut [u32],
+    kinds: &mut [u8],
+    values: &mut [u64],
+    pool: &mut [u8],
+    first: Described,
+    m: Many,
+) -> Described
+    ensures { λ r. ⌜ ((h : Header) → andThen (describedIs first (bufs (now (code .entry)) (now (lines .entry)) (now (kinds .entry)) (now (values .entry)) (now (pool .entry)))) (calleeOf (now (chunk .entry)) h m) ≡ describedIs r (bufs (now (code .exit)) (now (lines .exit)) (now (kinds .exit)) (now (values .exit)) (now (pool .exit)))) ⌝ }
+{
+    match first {
+        Described::Done(s, e) => callee(chunk, code, lines, kinds, values, pool, s, m, e),
+        Described::Refused(k) => Described::Refused(k),
+    }
+}
+
+fn then_two(
     code: &mut [u32],
     lines: &mut [u32],
     kinds: &mut [u8],
@@ -203,13 +232,33 @@ pub fn compile_expr(
                 return leaf_expr(chunk, h, code, lines, kinds, values, pool, s, l);
             }
             let first = compile_expr(chunk, h, code, lines, kinds, values, pool, s, left - 1);
-            let after = after_first(chunk, code, lines, kinds, values, pool, first, head);
-            match after {
-                Described::Done(u, e) => match head {
-                    Head::Leaf(_) => Described::Done(u, e),
-                    Head::One(_) => Described::Done(u, e),
-                    Head::Two(t) => {
-                        let second = compile_expr(
+            match head {
+                Head::Leaf(_) => first,
+                Head::One(o) => then_one(chunk, code, lines, kinds, values, pool, first, o),
+                Head::Two(t) => {
+                    let middle = then_between(code, lines, kinds, values, pool, first, t);
+                    match middle {
+                        Described::Done(u, e) => {
+                            let second = compile_expr(
+                                chunk,
+                                h,
+                                code,
+                                lines,
+                                kinds,
+                                values,
+                                pool,
+                                u,
+                                left - 1,
+                            );
+                            then_two(code, lines, kinds, values, pool, second, t, e)
+                        }
+                        Described::Refused(k) => Described::Refused(k),
+                    }
+                }
+                Head::Many(m, n) => {
+                    let func = then_callee(chunk, code, lines, kinds, values, pool, first, m);
+                    match func {
+                        Described::Done(u, e) => compile_funcargs(
                             chunk,
                             h,
                             code,
@@ -219,25 +268,13 @@ pub fn compile_expr(
                             pool,
                             u,
                             left - 1,
-                        );
-                        after_second(code, lines, kinds, values, pool, second, t, e)
+                            e,
+                            u.line,
+                            n,
+                        ),
+                        Described::Refused(k) => Described::Refused(k),
                     }
-                    Head::Many(_, n) => compile_funcargs(
-                        chunk,
-                        h,
-                        code,
-                        lines,
-                        kinds,
-                        values,
-                        pool,
-                        u,
-                        left - 1,
-                        e,
-                        u.line,
-                        n,
-                    ),
-                },
-                Described::Refused(k) => Described::Refused(k),
+                }
             }
         }
         NodeRead::Refused(k) => Described::Refused(k),

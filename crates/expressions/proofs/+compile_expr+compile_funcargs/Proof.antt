@@ -6,7 +6,7 @@ use lib.ListN.{length}
 use Rattle.model.specs.Expressions.{compile-expr as compile-expr-of, compile-funcargs as compile-funcargs-of}
 use Rattle.model.specs.Steps.{bufs}
 use Rattle.discharge.specs.Laws.{described-told}
-use Rattle.expressions.specs.Paths.{expr-none, expr-refused, expr-leaf, expr-stopped, expr-one, expr-two, expr-many, args-none, args-last, args-stopped, args-more, args-full}
+use Rattle.expressions.specs.Paths.{expr-none, expr-refused, expr-leaf, expr-one, expr-two-stopped, expr-two, expr-many-stopped, expr-many, args-none, args-last, args-stopped, args-more, args-full}
 use Rattle.expressions.proofs.Inner.{inner}
 use Prim.Native.Nat.{ℕ, _<_, _+_, _*_}
 use borrow.Fn.Kinds.{In}
@@ -21,8 +21,10 @@ use Rattle.calls.proofs.closed_call.Reads as closed-call-reads
 use Rattle.calls.proofs.last_argument.Reads as last-argument-reads
 use Rattle.calls.proofs.leaf_expr.Reads as leaf-expr-reads
 use Rattle.discharge.proofs.exp2nextreg.Reads as exp2nextreg-reads
-use Rattle.expressions.proofs.after_first.Reads as after-first-reads
-use Rattle.expressions.proofs.after_second.Reads as after-second-reads
+use Rattle.expressions.proofs.then_between.Reads as then-between-reads
+use Rattle.expressions.proofs.then_callee.Reads as then-callee-reads
+use Rattle.expressions.proofs.then_one.Reads as then-one-reads
+use Rattle.expressions.proofs.then_two.Reads as then-two-reads
 use Rattle.expressions.proofs.with_place.Reads as with-place-reads
 use Rattle.nodes.proofs.node.read_node.Reads as read-node-reads
 use Rattle.expressions.proofs.+compile_expr+compile_funcargs.{statement}
@@ -63,7 +65,7 @@ compile-funcargs-below t =
     compile-funcargs.Pre
 
 abbrev compile-expr-claims : ℕ → compile-expr-lts.Claims
-compile-expr-claims t = (read-node-reads.Asked, read-node-reads.Learnt, with-place-reads.Asked, with-place-reads.Learnt, leaf-expr-reads.Asked, leaf-expr-reads.Learnt, compile-expr-below t, compile-expr.Post, after-first-reads.Asked, after-first-reads.Learnt, after-second-reads.Asked, after-second-reads.Learnt, compile-funcargs-below t, compile-funcargs.Post)
+compile-expr-claims t = (read-node-reads.Asked, read-node-reads.Learnt, with-place-reads.Asked, with-place-reads.Learnt, leaf-expr-reads.Asked, leaf-expr-reads.Learnt, compile-expr-below t, compile-expr.Post, then-one-reads.Asked, then-one-reads.Learnt, then-between-reads.Asked, then-between-reads.Learnt, then-two-reads.Asked, then-two-reads.Learnt, then-callee-reads.Asked, then-callee-reads.Learnt, compile-funcargs-below t, compile-funcargs.Post)
 
 abbrev compile-funcargs-claims : ℕ → compile-funcargs-lts.Claims
 compile-funcargs-claims t = (compile-expr-below t, compile-expr.Post, last-argument-reads.Asked, last-argument-reads.Learnt, exp2nextreg-reads.Asked, exp2nextreg-reads.Learnt, closed-call-reads.Asked, closed-call-reads.Learnt)
@@ -132,20 +134,23 @@ compile-expr-compile-expr-requires t c κs =
     let p18 = p11 .before .before .before .before .before .before .before in
     (omega (arith, (p18 .pre .0), (p11 .if1 .left)), tt)
 
-compile-expr-after-first-requires : (t : ℕ) → compile-expr-lts.Need-after-first-requires (compile-expr-claims t) (compile-expr-at t) compile-expr.Post
-compile-expr-after-first-requires t c κs = tt
-
-compile-expr-enum-known-after : (t : ℕ) → compile-expr-lts.Need-enum-known-after (compile-expr-claims t) (compile-expr-at t) compile-expr.Post
-compile-expr-enum-known-after t c = (c .match3 .keys1)
-
 compile-expr-enum-told : (t : ℕ) → compile-expr-lts.Need-enum-told (compile-expr-claims t) (compile-expr-at t) compile-expr.Post
-compile-expr-enum-told t c = (c .match4 .keys1)
-
-compile-expr-enum-told-2 : (t : ℕ) → compile-expr-lts.Need-enum-told-2 (compile-expr-claims t) (compile-expr-at t) compile-expr.Post
-compile-expr-enum-told-2 t c = (c .match4 .keys2)
+compile-expr-enum-told t c = (c .match3 .keys1)
 
 compile-expr-enum-known-head-2 : (t : ℕ) → compile-expr-lts.Need-enum-known-head-2 (compile-expr-claims t) (compile-expr-at t) compile-expr.Post
-compile-expr-enum-known-head-2 t c = (c .match4 .keys3)
+compile-expr-enum-known-head-2 t c = (c .match3 .keys2)
+
+compile-expr-then-one-requires : (t : ℕ) → compile-expr-lts.Need-then-one-requires (compile-expr-claims t) (compile-expr-at t) compile-expr.Post
+compile-expr-then-one-requires t c κs = tt
+
+compile-expr-enum-known-head-3 : (t : ℕ) → compile-expr-lts.Need-enum-known-head-3 (compile-expr-claims t) (compile-expr-at t) compile-expr.Post
+compile-expr-enum-known-head-3 t c = (c .match3 .keys3)
+
+compile-expr-then-between-requires : (t : ℕ) → compile-expr-lts.Need-then-between-requires (compile-expr-claims t) (compile-expr-at t) compile-expr.Post
+compile-expr-then-between-requires t c κs = tt
+
+compile-expr-enum-known-middle : (t : ℕ) → compile-expr-lts.Need-enum-known-middle (compile-expr-claims t) (compile-expr-at t) compile-expr.Post
+compile-expr-enum-known-middle t c = (c .match4 .keys1)
 
 compile-expr-sub-compile-expr-2 : (t : ℕ) → compile-expr-lts.Need-sub-compile-expr-2 (compile-expr-claims t) (compile-expr-at t) compile-expr.Post
 compile-expr-sub-compile-expr-2 t c =
@@ -158,11 +163,20 @@ compile-expr-compile-expr-requires-2 t c κs =
     let p56 = p49 .before .before .before .before .before .before .before in
     (omega (arith, (p56 .pre .0), (p49 .if1 .left)), tt)
 
-compile-expr-after-second-requires : (t : ℕ) → compile-expr-lts.Need-after-second-requires (compile-expr-claims t) (compile-expr-at t) compile-expr.Post
-compile-expr-after-second-requires t c κs = tt
+compile-expr-then-two-requires : (t : ℕ) → compile-expr-lts.Need-then-two-requires (compile-expr-claims t) (compile-expr-at t) compile-expr.Post
+compile-expr-then-two-requires t c κs = tt
 
-compile-expr-enum-known-head-3 : (t : ℕ) → compile-expr-lts.Need-enum-known-head-3 (compile-expr-claims t) (compile-expr-at t) compile-expr.Post
-compile-expr-enum-known-head-3 t c = (c .match4 .keys4)
+compile-expr-enum-known-middle-2 : (t : ℕ) → compile-expr-lts.Need-enum-known-middle-2 (compile-expr-claims t) (compile-expr-at t) compile-expr.Post
+compile-expr-enum-known-middle-2 t c = (c .match4 .keys2)
+
+compile-expr-enum-known-head-4 : (t : ℕ) → compile-expr-lts.Need-enum-known-head-4 (compile-expr-claims t) (compile-expr-at t) compile-expr.Post
+compile-expr-enum-known-head-4 t c = (c .match3 .keys4)
+
+compile-expr-then-callee-requires : (t : ℕ) → compile-expr-lts.Need-then-callee-requires (compile-expr-claims t) (compile-expr-at t) compile-expr.Post
+compile-expr-then-callee-requires t c κs = tt
+
+compile-expr-enum-known-func : (t : ℕ) → compile-expr-lts.Need-enum-known-func (compile-expr-claims t) (compile-expr-at t) compile-expr.Post
+compile-expr-enum-known-func t c = (c .match5 .keys1)
 
 compile-expr-sub-compile-funcargs : (t : ℕ) → compile-expr-lts.Need-sub-compile-funcargs (compile-expr-claims t) (compile-expr-at t) compile-expr.Post
 compile-expr-sub-compile-funcargs t c =
@@ -175,236 +189,269 @@ compile-expr-compile-funcargs-requires t c κs =
     let p56 = p49 .before .before .before .before .before .before .before in
     (omega (arith, (p56 .pre .0), (p49 .if1 .left)), tt)
 
-compile-expr-enum-known-after-2 : (t : ℕ) → compile-expr-lts.Need-enum-known-after-2 (compile-expr-claims t) (compile-expr-at t) compile-expr.Post
-compile-expr-enum-known-after-2 t c = (c .match3 .keys2)
+compile-expr-enum-known-func-2 : (t : ℕ) → compile-expr-lts.Need-enum-known-func-2 (compile-expr-claims t) (compile-expr-at t) compile-expr.Post
+compile-expr-enum-known-func-2 t c = (c .match5 .keys2)
 
 compile-expr-enum-known-read-2 : (t : ℕ) → compile-expr-lts.Need-enum-known-read-2 (compile-expr-claims t) (compile-expr-at t) compile-expr.Post
 compile-expr-enum-known-read-2 t c = (c .match .keys2)
 
 compile-expr-same-length-6 : (t : ℕ) → compile-expr-lts.Need-same-length-6 (compile-expr-claims t) (compile-expr-at t) compile-expr.Post
 compile-expr-same-length-6 t c =
-    let p15 = c .before .before .before .before .before .before .before .before .before .before .before .before .before .before .before in
-    let p31 = p15 .before .before .before .before .before .before .before .before .before .before .before .before .before .before .before .before in
-    omega (arith, (p31 .compile-expr .kept), (p15 .after-first .kept))
+    let p12 = c .before .before .before .before .before .before .before .before .before .before .before .before in
+    omega (arith, (p12 .compile-expr .kept))
 
 compile-expr-same-length-7 : (t : ℕ) → compile-expr-lts.Need-same-length-7 (compile-expr-claims t) (compile-expr-at t) compile-expr.Post
 compile-expr-same-length-7 t c =
-    let p15 = c .before .before .before .before .before .before .before .before .before .before .before .before .before .before .before in
-    let p31 = p15 .before .before .before .before .before .before .before .before .before .before .before .before .before .before .before .before in
-    omega (arith, (p31 .compile-expr .kept), (p15 .after-first .kept))
+    let p12 = c .before .before .before .before .before .before .before .before .before .before .before .before in
+    omega (arith, (p12 .compile-expr .kept))
 
 compile-expr-same-length-8 : (t : ℕ) → compile-expr-lts.Need-same-length-8 (compile-expr-claims t) (compile-expr-at t) compile-expr.Post
 compile-expr-same-length-8 t c =
-    let p15 = c .before .before .before .before .before .before .before .before .before .before .before .before .before .before .before in
-    let p31 = p15 .before .before .before .before .before .before .before .before .before .before .before .before .before .before .before .before in
-    omega (arith, (p31 .compile-expr .kept), (p15 .after-first .kept))
+    let p12 = c .before .before .before .before .before .before .before .before .before .before .before .before in
+    omega (arith, (p12 .compile-expr .kept))
 
 compile-expr-same-length-9 : (t : ℕ) → compile-expr-lts.Need-same-length-9 (compile-expr-claims t) (compile-expr-at t) compile-expr.Post
 compile-expr-same-length-9 t c =
-    let p15 = c .before .before .before .before .before .before .before .before .before .before .before .before .before .before .before in
-    let p31 = p15 .before .before .before .before .before .before .before .before .before .before .before .before .before .before .before .before in
-    omega (arith, (p31 .compile-expr .kept), (p15 .after-first .kept))
+    let p12 = c .before .before .before .before .before .before .before .before .before .before .before .before in
+    omega (arith, (p12 .compile-expr .kept))
 
 compile-expr-same-length-10 : (t : ℕ) → compile-expr-lts.Need-same-length-10 (compile-expr-claims t) (compile-expr-at t) compile-expr.Post
 compile-expr-same-length-10 t c =
-    let p15 = c .before .before .before .before .before .before .before .before .before .before .before .before .before .before .before in
-    let p31 = p15 .before .before .before .before .before .before .before .before .before .before .before .before .before .before .before .before in
-    omega (arith, (p31 .compile-expr .kept), (p15 .after-first .kept))
+    let p12 = c .before .before .before .before .before .before .before .before .before .before .before .before in
+    omega (arith, (p12 .compile-expr .kept))
 
 compile-expr-returns-3 : (t : ℕ) → compile-expr-lts.Need-returns-3 (compile-expr-claims t) (compile-expr-at t) compile-expr.Post
 compile-expr-returns-3 t c =
-    let p37 = c .before .before .before .before .before .before .before .before .before .before .before .before .before .before .before .before .before .before .before .before .before .before .before .before .before .before .before .before .before .before .before .before .before .before .before .before .before in
-    absurd (inner _ (p37 .match2 .keys2) _ (c .enum-told .given .1))
+    let p18 = c .before .before .before .before .before .before .before .before .before .before .before .before .before .before .before .before .before .before in
+    absurd (inner _ (p18 .match2 .keys2) _ (c .enum-told .given .1))
 
 compile-expr-same-length-11 : (t : ℕ) → compile-expr-lts.Need-same-length-11 (compile-expr-claims t) (compile-expr-at t) compile-expr.Post
 compile-expr-same-length-11 t c =
-    let p15 = c .before .before .before .before .before .before .before .before .before .before .before .before .before .before .before in
-    let p31 = p15 .before .before .before .before .before .before .before .before .before .before .before .before .before .before .before .before in
-    omega (arith, (p31 .compile-expr .kept), (p15 .after-first .kept))
+    let p10 = c .before .before .before .before .before .before .before .before .before .before in
+    let p29 = p10 .before .before .before .before .before .before .before .before .before .before .before .before .before .before .before .before .before .before .before in
+    omega (arith, (p29 .compile-expr .kept), (p10 .then-one .kept))
 
 compile-expr-same-length-12 : (t : ℕ) → compile-expr-lts.Need-same-length-12 (compile-expr-claims t) (compile-expr-at t) compile-expr.Post
 compile-expr-same-length-12 t c =
-    let p15 = c .before .before .before .before .before .before .before .before .before .before .before .before .before .before .before in
-    let p31 = p15 .before .before .before .before .before .before .before .before .before .before .before .before .before .before .before .before in
-    omega (arith, (p31 .compile-expr .kept), (p15 .after-first .kept))
+    let p10 = c .before .before .before .before .before .before .before .before .before .before in
+    let p29 = p10 .before .before .before .before .before .before .before .before .before .before .before .before .before .before .before .before .before .before .before in
+    omega (arith, (p29 .compile-expr .kept), (p10 .then-one .kept))
 
 compile-expr-same-length-13 : (t : ℕ) → compile-expr-lts.Need-same-length-13 (compile-expr-claims t) (compile-expr-at t) compile-expr.Post
 compile-expr-same-length-13 t c =
-    let p15 = c .before .before .before .before .before .before .before .before .before .before .before .before .before .before .before in
-    let p31 = p15 .before .before .before .before .before .before .before .before .before .before .before .before .before .before .before .before in
-    omega (arith, (p31 .compile-expr .kept), (p15 .after-first .kept))
+    let p10 = c .before .before .before .before .before .before .before .before .before .before in
+    let p29 = p10 .before .before .before .before .before .before .before .before .before .before .before .before .before .before .before .before .before .before .before in
+    omega (arith, (p29 .compile-expr .kept), (p10 .then-one .kept))
 
 compile-expr-same-length-14 : (t : ℕ) → compile-expr-lts.Need-same-length-14 (compile-expr-claims t) (compile-expr-at t) compile-expr.Post
 compile-expr-same-length-14 t c =
-    let p15 = c .before .before .before .before .before .before .before .before .before .before .before .before .before .before .before in
-    let p31 = p15 .before .before .before .before .before .before .before .before .before .before .before .before .before .before .before .before in
-    omega (arith, (p31 .compile-expr .kept), (p15 .after-first .kept))
+    let p10 = c .before .before .before .before .before .before .before .before .before .before in
+    let p29 = p10 .before .before .before .before .before .before .before .before .before .before .before .before .before .before .before .before .before .before .before in
+    omega (arith, (p29 .compile-expr .kept), (p10 .then-one .kept))
 
 compile-expr-same-length-15 : (t : ℕ) → compile-expr-lts.Need-same-length-15 (compile-expr-claims t) (compile-expr-at t) compile-expr.Post
 compile-expr-same-length-15 t c =
-    let p15 = c .before .before .before .before .before .before .before .before .before .before .before .before .before .before .before in
-    let p31 = p15 .before .before .before .before .before .before .before .before .before .before .before .before .before .before .before .before in
-    omega (arith, (p31 .compile-expr .kept), (p15 .after-first .kept))
+    let p10 = c .before .before .before .before .before .before .before .before .before .before in
+    let p29 = p10 .before .before .before .before .before .before .before .before .before .before .before .before .before .before .before .before .before .before .before in
+    omega (arith, (p29 .compile-expr .kept), (p10 .then-one .kept))
 
 compile-expr-returns-4 : (t : ℕ) → compile-expr-lts.Need-returns-4 (compile-expr-claims t) (compile-expr-at t) compile-expr.Post
 compile-expr-returns-4 t c =
-    let p3 = c .before .before .before in
-    let p15 = p3 .before .before .before .before .before .before .before .before .before .before .before .before in
-    let p31 = p15 .before .before .before .before .before .before .before .before .before .before .before .before .before .before .before .before in
-    let p37 = p31 .before .before .before .before .before .before in
-    let p38 = p37 .before in
+    let p10 = c .before .before .before .before .before .before .before .before .before .before in
+    let p17 = p10 .before .before .before .before .before .before .before in
+    let p29 = p17 .before .before .before .before .before .before .before .before .before .before .before .before in
+    let p36 = p29 .before .before .before .before .before .before .before in
+    let p38 = p36 .before .before in
     let p40 = p38 .before .before in
-    let p42 = p40 .before .before in
-    let p43 = p42 .before in
-    expr-one _ _ _ _ _ (p43 .if1 .left) (p42 .read-node .ensures) (p40 .read .given .1) (p38 .with-place .ensures) (inner _ (p37 .match2 .keys2)) (p31 .compile-expr .ensures) (described-told ((p15 .after-first .result)) _ ((p15 .after-first .ensures) _) (p3 .after .given .1)) (c .enum-told2 .given .1)
+    let p41 = p40 .before in
+    expr-one _ _ _ _ _ (p41 .if1 .left) (p40 .read-node .ensures) (p38 .read .given .1) (p36 .with-place .ensures) (p29 .compile-expr .ensures) (p17 .head2 .given .1) ((p10 .then-one .ensures) _)
 
 compile-expr-same-length-16 : (t : ℕ) → compile-expr-lts.Need-same-length-16 (compile-expr-claims t) (compile-expr-at t) compile-expr.Post
 compile-expr-same-length-16 t c =
     let p10 = c .before .before .before .before .before .before .before .before .before .before in
     let p26 = p10 .before .before .before .before .before .before .before .before .before .before .before .before .before .before .before .before in
-    let p48 = p26 .before .before .before .before .before .before .before .before .before .before .before .before .before .before .before .before .before .before .before .before .before .before in
-    let p64 = p48 .before .before .before .before .before .before .before .before .before .before .before .before .before .before .before .before in
-    omega (arith, (p64 .compile-expr .kept), (p48 .after-first .kept), (p26 .compile-expr2 .kept), (p10 .after-second .kept))
+    let p45 = p26 .before .before .before .before .before .before .before .before .before .before .before .before .before .before .before .before .before .before .before in
+    let p64 = p45 .before .before .before .before .before .before .before .before .before .before .before .before .before .before .before .before .before .before .before in
+    omega (arith, (p64 .compile-expr .kept), (p45 .then-between .kept), (p26 .compile-expr2 .kept), (p10 .then-two .kept))
 
 compile-expr-same-length-17 : (t : ℕ) → compile-expr-lts.Need-same-length-17 (compile-expr-claims t) (compile-expr-at t) compile-expr.Post
 compile-expr-same-length-17 t c =
     let p10 = c .before .before .before .before .before .before .before .before .before .before in
     let p26 = p10 .before .before .before .before .before .before .before .before .before .before .before .before .before .before .before .before in
-    let p48 = p26 .before .before .before .before .before .before .before .before .before .before .before .before .before .before .before .before .before .before .before .before .before .before in
-    let p64 = p48 .before .before .before .before .before .before .before .before .before .before .before .before .before .before .before .before in
-    omega (arith, (p64 .compile-expr .kept), (p48 .after-first .kept), (p26 .compile-expr2 .kept), (p10 .after-second .kept))
+    let p45 = p26 .before .before .before .before .before .before .before .before .before .before .before .before .before .before .before .before .before .before .before in
+    let p64 = p45 .before .before .before .before .before .before .before .before .before .before .before .before .before .before .before .before .before .before .before in
+    omega (arith, (p64 .compile-expr .kept), (p45 .then-between .kept), (p26 .compile-expr2 .kept), (p10 .then-two .kept))
 
 compile-expr-same-length-18 : (t : ℕ) → compile-expr-lts.Need-same-length-18 (compile-expr-claims t) (compile-expr-at t) compile-expr.Post
 compile-expr-same-length-18 t c =
     let p10 = c .before .before .before .before .before .before .before .before .before .before in
     let p26 = p10 .before .before .before .before .before .before .before .before .before .before .before .before .before .before .before .before in
-    let p48 = p26 .before .before .before .before .before .before .before .before .before .before .before .before .before .before .before .before .before .before .before .before .before .before in
-    let p64 = p48 .before .before .before .before .before .before .before .before .before .before .before .before .before .before .before .before in
-    omega (arith, (p64 .compile-expr .kept), (p48 .after-first .kept), (p26 .compile-expr2 .kept), (p10 .after-second .kept))
+    let p45 = p26 .before .before .before .before .before .before .before .before .before .before .before .before .before .before .before .before .before .before .before in
+    let p64 = p45 .before .before .before .before .before .before .before .before .before .before .before .before .before .before .before .before .before .before .before in
+    omega (arith, (p64 .compile-expr .kept), (p45 .then-between .kept), (p26 .compile-expr2 .kept), (p10 .then-two .kept))
 
 compile-expr-same-length-19 : (t : ℕ) → compile-expr-lts.Need-same-length-19 (compile-expr-claims t) (compile-expr-at t) compile-expr.Post
 compile-expr-same-length-19 t c =
     let p10 = c .before .before .before .before .before .before .before .before .before .before in
     let p26 = p10 .before .before .before .before .before .before .before .before .before .before .before .before .before .before .before .before in
-    let p48 = p26 .before .before .before .before .before .before .before .before .before .before .before .before .before .before .before .before .before .before .before .before .before .before in
-    let p64 = p48 .before .before .before .before .before .before .before .before .before .before .before .before .before .before .before .before in
-    omega (arith, (p64 .compile-expr .kept), (p48 .after-first .kept), (p26 .compile-expr2 .kept), (p10 .after-second .kept))
+    let p45 = p26 .before .before .before .before .before .before .before .before .before .before .before .before .before .before .before .before .before .before .before in
+    let p64 = p45 .before .before .before .before .before .before .before .before .before .before .before .before .before .before .before .before .before .before .before in
+    omega (arith, (p64 .compile-expr .kept), (p45 .then-between .kept), (p26 .compile-expr2 .kept), (p10 .then-two .kept))
 
 compile-expr-same-length-20 : (t : ℕ) → compile-expr-lts.Need-same-length-20 (compile-expr-claims t) (compile-expr-at t) compile-expr.Post
 compile-expr-same-length-20 t c =
     let p10 = c .before .before .before .before .before .before .before .before .before .before in
     let p26 = p10 .before .before .before .before .before .before .before .before .before .before .before .before .before .before .before .before in
-    let p48 = p26 .before .before .before .before .before .before .before .before .before .before .before .before .before .before .before .before .before .before .before .before .before .before in
-    let p64 = p48 .before .before .before .before .before .before .before .before .before .before .before .before .before .before .before .before in
-    omega (arith, (p64 .compile-expr .kept), (p48 .after-first .kept), (p26 .compile-expr2 .kept), (p10 .after-second .kept))
+    let p45 = p26 .before .before .before .before .before .before .before .before .before .before .before .before .before .before .before .before .before .before .before in
+    let p64 = p45 .before .before .before .before .before .before .before .before .before .before .before .before .before .before .before .before .before .before .before in
+    omega (arith, (p64 .compile-expr .kept), (p45 .then-between .kept), (p26 .compile-expr2 .kept), (p10 .then-two .kept))
 
 compile-expr-returns-5 : (t : ℕ) → compile-expr-lts.Need-returns-5 (compile-expr-claims t) (compile-expr-at t) compile-expr.Post
 compile-expr-returns-5 t c =
     let p10 = c .before .before .before .before .before .before .before .before .before .before in
     let p26 = p10 .before .before .before .before .before .before .before .before .before .before .before .before .before .before .before .before in
     let p33 = p26 .before .before .before .before .before .before .before in
-    let p36 = p33 .before .before .before in
-    let p48 = p36 .before .before .before .before .before .before .before .before .before .before .before .before in
-    let p64 = p48 .before .before .before .before .before .before .before .before .before .before .before .before .before .before .before .before in
-    let p70 = p64 .before .before .before .before .before .before in
-    let p71 = p70 .before in
+    let p45 = p33 .before .before .before .before .before .before .before .before .before .before .before .before in
+    let p52 = p45 .before .before .before .before .before .before .before in
+    let p64 = p52 .before .before .before .before .before .before .before .before .before .before .before .before in
+    let p71 = p64 .before .before .before .before .before .before .before in
     let p73 = p71 .before .before in
     let p75 = p73 .before .before in
     let p76 = p75 .before in
-    expr-two _ _ _ _ _ (p76 .if1 .left) (p75 .read-node .ensures) (p73 .read .given .1) (p71 .with-place .ensures) (inner _ (p70 .match2 .keys2)) (p64 .compile-expr .ensures) (described-told ((p48 .after-first .result)) _ ((p48 .after-first .ensures) _) (p36 .after .given .1)) (p33 .head2 .given .1) (p26 .compile-expr2 .ensures) ((p10 .after-second .ensures) _ _)
+    expr-two _ _ _ _ _ (p76 .if1 .left) (p75 .read-node .ensures) (p73 .read .given .1) (p71 .with-place .ensures) (p64 .compile-expr .ensures) (p52 .head3 .given .1) (described-told ((p45 .then-between .result)) _ ((p45 .then-between .ensures) _ _) (p33 .middle .given .1)) (p26 .compile-expr2 .ensures) ((p10 .then-two .ensures) _ _)
 
 compile-expr-same-length-21 : (t : ℕ) → compile-expr-lts.Need-same-length-21 (compile-expr-claims t) (compile-expr-at t) compile-expr.Post
 compile-expr-same-length-21 t c =
-    let p10 = c .before .before .before .before .before .before .before .before .before .before in
-    let p32 = p10 .before .before .before .before .before .before .before .before .before .before .before .before .before .before .before .before .before .before .before .before .before .before in
-    let p48 = p32 .before .before .before .before .before .before .before .before .before .before .before .before .before .before .before .before in
-    omega (arith, (p48 .compile-expr .kept), (p32 .after-first .kept), (p10 .compile-funcargs .kept))
+    let p13 = c .before .before .before .before .before .before .before .before .before .before .before .before .before in
+    let p32 = p13 .before .before .before .before .before .before .before .before .before .before .before .before .before .before .before .before .before .before .before in
+    omega (arith, (p32 .compile-expr .kept), (p13 .then-between .kept))
 
 compile-expr-same-length-22 : (t : ℕ) → compile-expr-lts.Need-same-length-22 (compile-expr-claims t) (compile-expr-at t) compile-expr.Post
 compile-expr-same-length-22 t c =
-    let p10 = c .before .before .before .before .before .before .before .before .before .before in
-    let p32 = p10 .before .before .before .before .before .before .before .before .before .before .before .before .before .before .before .before .before .before .before .before .before .before in
-    let p48 = p32 .before .before .before .before .before .before .before .before .before .before .before .before .before .before .before .before in
-    omega (arith, (p48 .compile-expr .kept), (p32 .after-first .kept), (p10 .compile-funcargs .kept))
+    let p13 = c .before .before .before .before .before .before .before .before .before .before .before .before .before in
+    let p32 = p13 .before .before .before .before .before .before .before .before .before .before .before .before .before .before .before .before .before .before .before in
+    omega (arith, (p32 .compile-expr .kept), (p13 .then-between .kept))
 
 compile-expr-same-length-23 : (t : ℕ) → compile-expr-lts.Need-same-length-23 (compile-expr-claims t) (compile-expr-at t) compile-expr.Post
 compile-expr-same-length-23 t c =
-    let p10 = c .before .before .before .before .before .before .before .before .before .before in
-    let p32 = p10 .before .before .before .before .before .before .before .before .before .before .before .before .before .before .before .before .before .before .before .before .before .before in
-    let p48 = p32 .before .before .before .before .before .before .before .before .before .before .before .before .before .before .before .before in
-    omega (arith, (p48 .compile-expr .kept), (p32 .after-first .kept), (p10 .compile-funcargs .kept))
+    let p13 = c .before .before .before .before .before .before .before .before .before .before .before .before .before in
+    let p32 = p13 .before .before .before .before .before .before .before .before .before .before .before .before .before .before .before .before .before .before .before in
+    omega (arith, (p32 .compile-expr .kept), (p13 .then-between .kept))
 
 compile-expr-same-length-24 : (t : ℕ) → compile-expr-lts.Need-same-length-24 (compile-expr-claims t) (compile-expr-at t) compile-expr.Post
 compile-expr-same-length-24 t c =
-    let p10 = c .before .before .before .before .before .before .before .before .before .before in
-    let p32 = p10 .before .before .before .before .before .before .before .before .before .before .before .before .before .before .before .before .before .before .before .before .before .before in
-    let p48 = p32 .before .before .before .before .before .before .before .before .before .before .before .before .before .before .before .before in
-    omega (arith, (p48 .compile-expr .kept), (p32 .after-first .kept), (p10 .compile-funcargs .kept))
+    let p13 = c .before .before .before .before .before .before .before .before .before .before .before .before .before in
+    let p32 = p13 .before .before .before .before .before .before .before .before .before .before .before .before .before .before .before .before .before .before .before in
+    omega (arith, (p32 .compile-expr .kept), (p13 .then-between .kept))
 
 compile-expr-same-length-25 : (t : ℕ) → compile-expr-lts.Need-same-length-25 (compile-expr-claims t) (compile-expr-at t) compile-expr.Post
 compile-expr-same-length-25 t c =
-    let p10 = c .before .before .before .before .before .before .before .before .before .before in
-    let p32 = p10 .before .before .before .before .before .before .before .before .before .before .before .before .before .before .before .before .before .before .before .before .before .before in
-    let p48 = p32 .before .before .before .before .before .before .before .before .before .before .before .before .before .before .before .before in
-    omega (arith, (p48 .compile-expr .kept), (p32 .after-first .kept), (p10 .compile-funcargs .kept))
+    let p13 = c .before .before .before .before .before .before .before .before .before .before .before .before .before in
+    let p32 = p13 .before .before .before .before .before .before .before .before .before .before .before .before .before .before .before .before .before .before .before in
+    omega (arith, (p32 .compile-expr .kept), (p13 .then-between .kept))
 
 compile-expr-returns-6 : (t : ℕ) → compile-expr-lts.Need-returns-6 (compile-expr-claims t) (compile-expr-at t) compile-expr.Post
 compile-expr-returns-6 t c =
-    let p10 = c .before .before .before .before .before .before .before .before .before .before in
-    let p17 = p10 .before .before .before .before .before .before .before in
-    let p20 = p17 .before .before .before in
+    let p13 = c .before .before .before .before .before .before .before .before .before .before .before .before .before in
+    let p20 = p13 .before .before .before .before .before .before .before in
     let p32 = p20 .before .before .before .before .before .before .before .before .before .before .before .before in
-    let p48 = p32 .before .before .before .before .before .before .before .before .before .before .before .before .before .before .before .before in
-    let p54 = p48 .before .before .before .before .before .before in
-    let p55 = p54 .before in
-    let p57 = p55 .before .before in
-    let p59 = p57 .before .before in
-    let p60 = p59 .before in
-    expr-many _ _ _ _ _ (p60 .if1 .left) (p59 .read-node .ensures) (p57 .read .given .1) (p55 .with-place .ensures) (inner _ (p54 .match2 .keys2)) (p48 .compile-expr .ensures) (described-told ((p32 .after-first .result)) _ ((p32 .after-first .ensures) _) (p20 .after .given .1)) (p17 .head3 .given .1) (p10 .compile-funcargs .ensures)
+    let p39 = p32 .before .before .before .before .before .before .before in
+    let p41 = p39 .before .before in
+    let p43 = p41 .before .before in
+    let p44 = p43 .before in
+    expr-two-stopped _ _ _ _ _ (p44 .if1 .left) (p43 .read-node .ensures) (p41 .read .given .1) (p39 .with-place .ensures) (p32 .compile-expr .ensures) (p20 .head3 .given .1) (described-told ((p13 .then-between .result)) _ ((p13 .then-between .ensures) _ _) (c .before .middle2 .given .1))
 
 compile-expr-same-length-26 : (t : ℕ) → compile-expr-lts.Need-same-length-26 (compile-expr-claims t) (compile-expr-at t) compile-expr.Post
 compile-expr-same-length-26 t c =
-    let p13 = c .before .before .before .before .before .before .before .before .before .before .before .before .before in
-    let p29 = p13 .before .before .before .before .before .before .before .before .before .before .before .before .before .before .before .before in
-    omega (arith, (p29 .compile-expr .kept), (p13 .after-first .kept))
+    let p10 = c .before .before .before .before .before .before .before .before .before .before in
+    let p29 = p10 .before .before .before .before .before .before .before .before .before .before .before .before .before .before .before .before .before .before .before in
+    let p48 = p29 .before .before .before .before .before .before .before .before .before .before .before .before .before .before .before .before .before .before .before in
+    omega (arith, (p48 .compile-expr .kept), (p29 .then-callee .kept), (p10 .compile-funcargs .kept))
 
 compile-expr-same-length-27 : (t : ℕ) → compile-expr-lts.Need-same-length-27 (compile-expr-claims t) (compile-expr-at t) compile-expr.Post
 compile-expr-same-length-27 t c =
-    let p13 = c .before .before .before .before .before .before .before .before .before .before .before .before .before in
-    let p29 = p13 .before .before .before .before .before .before .before .before .before .before .before .before .before .before .before .before in
-    omega (arith, (p29 .compile-expr .kept), (p13 .after-first .kept))
+    let p10 = c .before .before .before .before .before .before .before .before .before .before in
+    let p29 = p10 .before .before .before .before .before .before .before .before .before .before .before .before .before .before .before .before .before .before .before in
+    let p48 = p29 .before .before .before .before .before .before .before .before .before .before .before .before .before .before .before .before .before .before .before in
+    omega (arith, (p48 .compile-expr .kept), (p29 .then-callee .kept), (p10 .compile-funcargs .kept))
 
 compile-expr-same-length-28 : (t : ℕ) → compile-expr-lts.Need-same-length-28 (compile-expr-claims t) (compile-expr-at t) compile-expr.Post
 compile-expr-same-length-28 t c =
-    let p13 = c .before .before .before .before .before .before .before .before .before .before .before .before .before in
-    let p29 = p13 .before .before .before .before .before .before .before .before .before .before .before .before .before .before .before .before in
-    omega (arith, (p29 .compile-expr .kept), (p13 .after-first .kept))
+    let p10 = c .before .before .before .before .before .before .before .before .before .before in
+    let p29 = p10 .before .before .before .before .before .before .before .before .before .before .before .before .before .before .before .before .before .before .before in
+    let p48 = p29 .before .before .before .before .before .before .before .before .before .before .before .before .before .before .before .before .before .before .before in
+    omega (arith, (p48 .compile-expr .kept), (p29 .then-callee .kept), (p10 .compile-funcargs .kept))
 
 compile-expr-same-length-29 : (t : ℕ) → compile-expr-lts.Need-same-length-29 (compile-expr-claims t) (compile-expr-at t) compile-expr.Post
 compile-expr-same-length-29 t c =
-    let p13 = c .before .before .before .before .before .before .before .before .before .before .before .before .before in
-    let p29 = p13 .before .before .before .before .before .before .before .before .before .before .before .before .before .before .before .before in
-    omega (arith, (p29 .compile-expr .kept), (p13 .after-first .kept))
+    let p10 = c .before .before .before .before .before .before .before .before .before .before in
+    let p29 = p10 .before .before .before .before .before .before .before .before .before .before .before .before .before .before .before .before .before .before .before in
+    let p48 = p29 .before .before .before .before .before .before .before .before .before .before .before .before .before .before .before .before .before .before .before in
+    omega (arith, (p48 .compile-expr .kept), (p29 .then-callee .kept), (p10 .compile-funcargs .kept))
 
 compile-expr-same-length-30 : (t : ℕ) → compile-expr-lts.Need-same-length-30 (compile-expr-claims t) (compile-expr-at t) compile-expr.Post
 compile-expr-same-length-30 t c =
-    let p13 = c .before .before .before .before .before .before .before .before .before .before .before .before .before in
-    let p29 = p13 .before .before .before .before .before .before .before .before .before .before .before .before .before .before .before .before in
-    omega (arith, (p29 .compile-expr .kept), (p13 .after-first .kept))
+    let p10 = c .before .before .before .before .before .before .before .before .before .before in
+    let p29 = p10 .before .before .before .before .before .before .before .before .before .before .before .before .before .before .before .before .before .before .before in
+    let p48 = p29 .before .before .before .before .before .before .before .before .before .before .before .before .before .before .before .before .before .before .before in
+    omega (arith, (p48 .compile-expr .kept), (p29 .then-callee .kept), (p10 .compile-funcargs .kept))
 
 compile-expr-returns-7 : (t : ℕ) → compile-expr-lts.Need-returns-7 (compile-expr-claims t) (compile-expr-at t) compile-expr.Post
 compile-expr-returns-7 t c =
+    let p10 = c .before .before .before .before .before .before .before .before .before .before in
+    let p17 = p10 .before .before .before .before .before .before .before in
+    let p29 = p17 .before .before .before .before .before .before .before .before .before .before .before .before in
+    let p36 = p29 .before .before .before .before .before .before .before in
+    let p48 = p36 .before .before .before .before .before .before .before .before .before .before .before .before in
+    let p55 = p48 .before .before .before .before .before .before .before in
+    let p57 = p55 .before .before in
+    let p59 = p57 .before .before in
+    let p60 = p59 .before in
+    expr-many _ _ _ _ _ (p60 .if1 .left) (p59 .read-node .ensures) (p57 .read .given .1) (p55 .with-place .ensures) (p48 .compile-expr .ensures) (p36 .head4 .given .1) (described-told ((p29 .then-callee .result)) _ ((p29 .then-callee .ensures) _) (p17 .func .given .1)) (p10 .compile-funcargs .ensures)
+
+compile-expr-same-length-31 : (t : ℕ) → compile-expr-lts.Need-same-length-31 (compile-expr-claims t) (compile-expr-at t) compile-expr.Post
+compile-expr-same-length-31 t c =
     let p13 = c .before .before .before .before .before .before .before .before .before .before .before .before .before in
-    let p29 = p13 .before .before .before .before .before .before .before .before .before .before .before .before .before .before .before .before in
-    let p35 = p29 .before .before .before .before .before .before in
-    let p36 = p35 .before in
-    let p38 = p36 .before .before in
-    let p40 = p38 .before .before in
-    let p41 = p40 .before in
-    expr-stopped _ _ _ _ _ (p41 .if1 .left) (p40 .read-node .ensures) (p38 .read .given .1) (p36 .with-place .ensures) (inner _ (p35 .match2 .keys2)) (p29 .compile-expr .ensures) (described-told ((p13 .after-first .result)) _ ((p13 .after-first .ensures) _) (c .before .after2 .given .1))
+    let p32 = p13 .before .before .before .before .before .before .before .before .before .before .before .before .before .before .before .before .before .before .before in
+    omega (arith, (p32 .compile-expr .kept), (p13 .then-callee .kept))
+
+compile-expr-same-length-32 : (t : ℕ) → compile-expr-lts.Need-same-length-32 (compile-expr-claims t) (compile-expr-at t) compile-expr.Post
+compile-expr-same-length-32 t c =
+    let p13 = c .before .before .before .before .before .before .before .before .before .before .before .before .before in
+    let p32 = p13 .before .before .before .before .before .before .before .before .before .before .before .before .before .before .before .before .before .before .before in
+    omega (arith, (p32 .compile-expr .kept), (p13 .then-callee .kept))
+
+compile-expr-same-length-33 : (t : ℕ) → compile-expr-lts.Need-same-length-33 (compile-expr-claims t) (compile-expr-at t) compile-expr.Post
+compile-expr-same-length-33 t c =
+    let p13 = c .before .before .before .before .before .before .before .before .before .before .before .before .before in
+    let p32 = p13 .before .before .before .before .before .before .before .before .before .before .before .before .before .before .before .before .before .before .before in
+    omega (arith, (p32 .compile-expr .kept), (p13 .then-callee .kept))
+
+compile-expr-same-length-34 : (t : ℕ) → compile-expr-lts.Need-same-length-34 (compile-expr-claims t) (compile-expr-at t) compile-expr.Post
+compile-expr-same-length-34 t c =
+    let p13 = c .before .before .before .before .before .before .before .before .before .before .before .before .before in
+    let p32 = p13 .before .before .before .before .before .before .before .before .before .before .before .before .before .before .before .before .before .before .before in
+    omega (arith, (p32 .compile-expr .kept), (p13 .then-callee .kept))
+
+compile-expr-same-length-35 : (t : ℕ) → compile-expr-lts.Need-same-length-35 (compile-expr-claims t) (compile-expr-at t) compile-expr.Post
+compile-expr-same-length-35 t c =
+    let p13 = c .before .before .before .before .before .before .before .before .before .before .before .before .before in
+    let p32 = p13 .before .before .before .before .before .before .before .before .before .before .before .before .before .before .before .before .before .before .before in
+    omega (arith, (p32 .compile-expr .kept), (p13 .then-callee .kept))
 
 compile-expr-returns-8 : (t : ℕ) → compile-expr-lts.Need-returns-8 (compile-expr-claims t) (compile-expr-at t) compile-expr.Post
 compile-expr-returns-8 t c =
+    let p13 = c .before .before .before .before .before .before .before .before .before .before .before .before .before in
+    let p20 = p13 .before .before .before .before .before .before .before in
+    let p32 = p20 .before .before .before .before .before .before .before .before .before .before .before .before in
+    let p39 = p32 .before .before .before .before .before .before .before in
+    let p41 = p39 .before .before in
+    let p43 = p41 .before .before in
+    let p44 = p43 .before in
+    expr-many-stopped _ _ _ _ _ (p44 .if1 .left) (p43 .read-node .ensures) (p41 .read .given .1) (p39 .with-place .ensures) (p32 .compile-expr .ensures) (p20 .head4 .given .1) (described-told ((p13 .then-callee .result)) _ ((p13 .then-callee .ensures) _) (c .before .func2 .given .1))
+
+compile-expr-returns-9 : (t : ℕ) → compile-expr-lts.Need-returns-9 (compile-expr-claims t) (compile-expr-at t) compile-expr.Post
+compile-expr-returns-9 t c =
     let p3 = c .before .before .before in
     let p4 = p3 .before in
     expr-refused _ _ _ _ _ (p4 .if1 .left) (p3 .read-node .ensures) (c .before .read2 .given .1)
@@ -649,18 +696,22 @@ pub +compile-expr+compile-funcargs-spec : {M : Type 1} → statement M
     (compile-expr-returns-2 t)
     (compile-expr-sub-compile-expr t)
     (compile-expr-compile-expr-requires t)
-    (compile-expr-after-first-requires t)
-    (compile-expr-enum-known-after t)
     (compile-expr-enum-told t)
-    (compile-expr-enum-told-2 t)
     (compile-expr-enum-known-head-2 t)
+    (compile-expr-then-one-requires t)
+    (compile-expr-enum-known-head-3 t)
+    (compile-expr-then-between-requires t)
+    (compile-expr-enum-known-middle t)
     (compile-expr-sub-compile-expr-2 t)
     (compile-expr-compile-expr-requires-2 t)
-    (compile-expr-after-second-requires t)
-    (compile-expr-enum-known-head-3 t)
+    (compile-expr-then-two-requires t)
+    (compile-expr-enum-known-middle-2 t)
+    (compile-expr-enum-known-head-4 t)
+    (compile-expr-then-callee-requires t)
+    (compile-expr-enum-known-func t)
     (compile-expr-sub-compile-funcargs t)
     (compile-expr-compile-funcargs-requires t)
-    (compile-expr-enum-known-after-2 t)
+    (compile-expr-enum-known-func-2 t)
     (compile-expr-enum-known-read-2 t)
     (compile-expr-same-length-6 t)
     (compile-expr-same-length-7 t)
@@ -692,7 +743,13 @@ pub +compile-expr+compile-funcargs-spec : {M : Type 1} → statement M
     (compile-expr-same-length-29 t)
     (compile-expr-same-length-30 t)
     (compile-expr-returns-7 t)
-    (compile-expr-returns-8 t))
+    (compile-expr-same-length-31 t)
+    (compile-expr-same-length-32 t)
+    (compile-expr-same-length-33 t)
+    (compile-expr-same-length-34 t)
+    (compile-expr-same-length-35 t)
+    (compile-expr-returns-8 t)
+    (compile-expr-returns-9 t))
     λ t. compile-funcargs-lts.spec (compile-funcargs-claims t) (compile-funcargs-at t)
     compile-funcargs.Post
     compile-funcargs-Inv-loop

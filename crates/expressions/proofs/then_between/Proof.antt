@@ -1,17 +1,17 @@
--- `expressions::after_second` meets its contract, by the answer and that of `after_two`. Assumes nothing.
+-- `expressions::then_between` meets its contract, by the answer and that of `between`. Assumes nothing.
 use Rattle.expressions.specs.Laws.{goes-on, stops}
 use borrow.Author.Needs.{needs}
-use Rattle.expressions.proofs.after_second.Statement.{statement}
-use Rattle.expressions.proofs.after_second.Tie as tie
+use Rattle.expressions.proofs.then_between.Statement.{statement}
+use Rattle.expressions.proofs.then_between.Tie as tie
 
-enum-known-second : tie.Need-enum-known-second
-enum-known-second c = search needs
+enum-known-first : tie.Need-enum-known-first
+enum-known-first c = search needs
 
-after-two-requires : tie.Need-after-two-requires
-after-two-requires c κs = search needs
+between-requires : tie.Need-between-requires
+between-requires c κs = search needs
 
-enum-known-second-2 : tie.Need-enum-known-second-2
-enum-known-second-2 c = search needs
+enum-known-first-2 : tie.Need-enum-known-first-2
+enum-known-first-2 c = search needs
 
 same-length : tie.Need-same-length
 same-length c = search needs
@@ -32,18 +32,18 @@ returns : tie.Need-returns
 returns c =
     let p10 = c .before .before .before .before .before .before .before .before .before .before in
     let p17 = p10 .before .before .before .before .before .before .before in
-    λ chunk h. goes-on _ _ (p17 .second .given .1) ((p10 .after-two .ensures) chunk h)
+    λ chunk h. goes-on _ _ (p17 .first .given .1) ((p10 .between .ensures) chunk h)
 
 returns-2 : tie.Need-returns-2
-returns-2 c = λ chunk h. stops _ _ (c .before .second2 .given .1)
+returns-2 c = λ chunk h. stops _ _ (c .before .first2 .given .1)
 
-pub after-second-spec : {M : Type 1} → statement M
-after-second-spec =
+pub then-between-spec : {M : Type 1} → statement M
+then-between-spec =
     tie.close
     (tie.spec
-    enum-known-second
-    after-two-requires
-    enum-known-second-2
+    enum-known-first
+    between-requires
+    enum-known-first-2
     same-length
     same-length-2
     same-length-3
