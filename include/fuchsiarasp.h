@@ -3,7 +3,7 @@
  *
  * The archive libcontroller.a (`rt staticlib controller`) defines fuchsiarasp_lower and needs only memset and memcpy beside it.
  * It is for x86-64 Linux. It allocates nothing, keeps nothing between calls and reads and writes only what it is lent and its stack, so
- * calls from several threads with buffers of their own don't meet. A call takes up to about 500 kB of stack (measured: calls nested
+ * calls from several threads with buffers of their own don't meet. A call takes up to about 520 kB of stack (measured: calls nested
  * as arguments to nesting 200; other chunks took less): have 1 MB.
  */
 #ifndef FUCHSIARASP_H

@@ -1,7 +1,4 @@
 -- `discharge::bring_fields` meets its contract, by that of `as_wanted`: what it gives back is all that may have changed (specs/Staying.antt). Assumes nothing.
-use mathlib.Core.Path.{_≡_, ap, sym, _∙_}
-use Rattle.model.specs.declared.Described.{Described}
-use Rattle.model.specs.Steps.{describedIs}
 use Rattle.discharge.specs.Staying.{wanted-kept}
 use borrow.Author.Needs.{needs}
 use Rattle.discharge.proofs.bring_fields.Statement.{statement}

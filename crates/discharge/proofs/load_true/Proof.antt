@@ -1,5 +1,4 @@
 -- `discharge::load_true` meets its contract, by those of `code_label`, `patch_to_here`, `get_label` and `land`. Assumes nothing.
-use mathlib.Core.Path.{_∙_}
 use Rattle.discharge.specs.Laws.{yes-done, yes-refused}
 use borrow.Author.Needs.{needs}
 use Rattle.discharge.proofs.load_true.Statement.{statement}
