@@ -179,6 +179,10 @@ module _ (d : ExprContext) (s : State) (m : Buffers) (q : isKind kind.NonReloc d
       ∙ any-done d s m (value-stays d s m (ap value-kind (kind-is kind.NonReloc d q)))
       ∙ any-there d s m q j
 
+  -- what is in a register without jumps is an operand
+  pub rk-stays : has-jumps d ≡ false → exp2rk d s m ≡ done d s m
+  rk-stays j = operand-done d s m (val-plain d s m j ∙ value-stays d s m (ap value-kind (kind-is kind.NonReloc d q))) ∙ stay-landed j
+
   in-register : (b : Bool) → has-jumps d ≡ b → as-rk (any-of d s m) ≡ any-of d s m
   unfolding andThen
   in-register true j = ap as-rk (any-jumps d s m q j) ∙ branched (leb (s .active) (d .info)) (exp2reg d (d .info)) (exp2nextreg d) s m (reg-landed (d .info) d s m) (next-landed d s m) ∙ sym (any-jumps d s m q j)

@@ -1,6 +1,6 @@
 -- Operators step by step: what a definition comes to once the answers of its steps are known, as the code reads them. Assumes nothing.
 use Prim.Native.Nat.{ℕ}
-use mathlib.Core.Bool.{Bool, true, false, _&&_}
+use mathlib.Core.Bool.{Bool, true, false, not, _&&_, false≢true}
 use mathlib.Core.List.{List, []}
 use mathlib.Core.Path.{_≡_, refl, ap, _∙_}
 use lib.ListN.{set}
@@ -21,11 +21,11 @@ use Rattle.constants.specs.declared.Found.{Found}
 use Rattle.ast.specs.declared.BinOp.{BinOp}
 use Rattle.ast.specs.declared.BinOp.the-variants as bin
 use Rattle.ast.specs.declared.UnOp.the-variants as un
-use Rattle.model.specs.declared.ExprKind.the-variants.{KNum, Relocable}
+use Rattle.model.specs.declared.ExprKind.the-variants.{KNum, Relocable, NonReloc}
 use Rattle.model.specs.declared.ExprContext.{ExprContext}
 use Rattle.model.specs.declared.State.{State}
 use Rattle.model.specs.Steps.{Buffers, bufs, Step, Result, done, refused, andThen}
-use Rattle.model.specs.Descriptor.{newOf, with-kind, with-jumps, isKind, is-numeral}
+use Rattle.model.specs.Descriptor.{newOf, with-kind, with-jumps, has-jumps, isKind, is-numeral}
 use Rattle.model.specs.Jumps.{word, isOp}
 use Rattle.model.specs.Emission.{emit-abc, emit-jump, concat}
 use Rattle.model.specs.Discharge.{discharge-vars, free-expr, exp2nextreg, exp2anyreg, exp2val, exp2rk, rk}
@@ -34,6 +34,7 @@ use Rattle.model.specs.Operators.{arithOp, const-fold, with-number, unless-fold
 use Rattle.emission.specs.Laws.{branch, then-done, then-refused}
 use Rattle.operands.specs.Forms.{formOf}
 use Rattle.conditions.specs.Parts.{relocable, unary, tested}
+use Rattle.discharge.specs.Bringing.{rk-stays}
 use Rattle.operands.specs.declared.Form.{Form}
 use Rattle.operands.specs.declared.Form.the-variants.{And, Or, Concat, Arithmetic, Comparison}
 use Rattle.operators.specs.Parts.{chosen, arith-of, arith-left, jump-of, comp-second, concat-word, concat-left, joined-to}
@@ -205,7 +206,15 @@ module _ (o : OpCode) (cond swapped : Bool) where
 
 -- ---- before and after the right operand
 
+without-jumps : (a b : Bool) → (not a && b) ≡ true → (a ≡ false) × (b ≡ true)
+without-jumps true b h = absurd (false≢true h)
+without-jumps false b h = (refl, h)
+
 module _ (e : ExprContext) (s : State) (m : Buffers) where
+  -- what is in a register without jumps is an operand
+  pub still-operand : (not (has-jumps e) && isKind NonReloc e) ≡ true → exp2rk e s m ≡ done e s m
+  still-operand h = let both = without-jumps (has-jumps e) (isKind NonReloc e) h in rk-stays e s m (both .1) (both .0)
+
   pub operand-waits : is-numeral e ≡ true → operand e s m ≡ done e s m
   unfolding operand
   operand-waits h = ap (λ (b : Bool). branch b (λ (a : State) (k : Buffers). done e a k) (exp2rk e) s m) h

@@ -1,10 +1,13 @@
 // Operators: infix, postfix and prefix, with folding, arithmetic, comparisons and concatenation (rilua's codegen.rs), over the lent buffers.
 // A state and descriptors go in by value and come back in the answer. Nothing is assumed of either.
+ghost use mathlib.Core.Bool.{not, _&&_};
 ghost use mathlib.Core.List.{List};
 ghost use mathlib.Core.Path.{_≡_};
 ghost use Prim.Native.Nat.{ℕ};
 ghost use Rattle.model.specs.Steps.{Buffers, bufs, done, andThen, givenIs, describedIs};
-ghost use Rattle.model.specs.Descriptor.{is-numeral};
+ghost use Rattle.model.specs.declared.ExprKind.the-variants.{NonReloc};
+ghost use Rattle.model.specs.Descriptor.{is-numeral, isKind, has-jumps};
+ghost use Rattle.model.specs.Discharge.{exp2rk as exp2rkOf};
 ghost use Rattle.model.specs.Operators.{arithOp, const-fold, with-number, code-arith, code-unary, code-concat, is-far, far-numeral, either as eitherOf, emit-comp, code-comp, operand as operandOf, before-right, code-and, code-or, join-concat, after-right, code-unop};
 ghost use Rattle.operators.specs.Parts.{chosen, arith-of, arith-left, jump-of, comp-second, concat-word, concat-left, joined-to};
 use ast::BinOp;
@@ -25,6 +28,7 @@ use discharge::exp2anyreg;
 use discharge::exp2nextreg;
 use discharge::exp2rk;
 use discharge::exp2val;
+use discharge::has_jumps;
 use discharge::set_b_at;
 use discharge::with_jumps;
 use discharge::with_kind;
@@ -87,6 +91,36 @@ fn with_number(e: ExprContext, n: Numeral) -> ExprContext
     }
 }
 
+// ---- operands
+
+// Whether a value is in a register and has no jumps.
+fn is_placed(e: ExprContext) -> bool
+    ensures { λ r. ⌜ (not (has-jumps e) && isKind NonReloc e) ≡ r ⌝ }
+{
+    if has_jumps(e) {
+        return false;
+    }
+    is_kind(e, ExprKind::NonReloc)
+}
+
+// `exp2rk` of what was made an operand before the other one was lowered: mostly it still is one, and then no call is made.
+fn exp2rk_again(
+    code: &mut [u32],
+    lines: &mut [u32],
+    kinds: &mut [u8],
+    values: &mut [u64],
+    pool: &mut [u8],
+    st: State,
+    e: ExprContext,
+) -> Described
+    ensures { λ r. ⌜ exp2rkOf e st (bufs (now (code .entry)) (now (lines .entry)) (now (kinds .entry)) (now (values .entry)) (now (pool .entry))) ≡ describedIs r (bufs (now (code .exit)) (now (lines .exit)) (now (kinds .exit)) (now (values .exit)) (now (pool .exit))) ⌝ }
+{
+    if is_placed(e) {
+        return Described::Done(st, e);
+    }
+    exp2rk(code, lines, kinds, values, pool, st, e)
+}
+
 // ---- arithmetic
 
 fn arith_op(op: Arith) -> OpCode
@@ -132,7 +166,7 @@ fn arith_onto(
 ) -> Described
     ensures { λ r. ⌜ arith-left op e1 c st (bufs (now (code .entry)) (now (lines .entry)) (now (kinds .entry)) (now (values .entry)) (now (pool .entry))) ≡ describedIs r (bufs (now (code .exit)) (now (lines .exit)) (now (kinds .exit)) (now (values .exit)) (now (pool .exit))) ⌝ }
 {
-    let answer = exp2rk(code, lines, kinds, values, pool, st, e1);
+    let answer = exp2rk_again(code, lines, kinds, values, pool, st, e1);
     match answer {
         Described::Done(s, b) => arith_word(code, lines, s, op, b, c),
         Described::Refused(k) => Described::Refused(k),
@@ -377,7 +411,7 @@ pub fn code_comp(
     let far = far_numeral(kinds, values, st, e1);
     let first = choose(far, e1, e2);
     let second = choose(far, e2, e1);
-    let answer = exp2rk(code, lines, kinds, values, pool, st, first);
+    let answer = exp2rk_again(code, lines, kinds, values, pool, st, first);
     match answer {
         Described::Done(s, x) => compare_with(
             code,

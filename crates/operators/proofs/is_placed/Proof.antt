@@ -1,0 +1,19 @@
+-- `operators::is_placed` meets its contract, by its jumps and its kind. Assumes nothing.
+use borrow.Author.Needs.{needs}
+use Rattle.operators.proofs.is_placed.Statement.{statement}
+use Rattle.operators.proofs.is_placed.Tie as tie
+
+has-jumps-requires : tie.Need-has-jumps-requires
+has-jumps-requires c κs = search needs
+
+returns : tie.Need-returns
+returns c = simp ((c .before .has-jumps .ensures), (c .if1 .taken))
+
+is-kind-requires : tie.Need-is-kind-requires
+is-kind-requires c κs = search needs
+
+returns-2 : tie.Need-returns-2
+returns-2 c = simp ((c .before .before .has-jumps .ensures), (c .before .if1 .left), (c .is-kind .ensures))
+
+pub is-placed-spec : {M : Type 1} → statement M
+is-placed-spec = tie.close (tie.spec has-jumps-requires returns is-kind-requires returns-2)
