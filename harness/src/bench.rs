@@ -64,6 +64,11 @@ fn time(k: usize, mut f: impl FnMut()) -> f64 {
     t.elapsed().as_nanos() as f64 / k as f64
 }
 
+/// Buffers that fit n nodes: 8n + 1 words and lines, the constants and texts that they list, a place for each node.
+fn fitting(n: usize, constants: usize, text: usize) -> Buffers {
+    Buffers::new(&Sizes { code: 8 * n + 1, lines: 8 * n + 1, kinds: constants, values: constants, pool: text, scratch: n, counts: 4 })
+}
+
 pub fn run(only: Option<&str>) {
     println!("Nanoseconds per node, median of {ROUNDS} rounds in which the columns take turns.");
     println!("ours: the whole call, from bytes, clearing included; `8n+1`: buffers of 8n + 1 words and lines, constants and text as needed, scratch n;");
@@ -81,7 +86,7 @@ pub fn run(only: Option<&str>) {
                 let tree = chunk::read(&bytes).expect("the form");
                 let rust = codegen::drive::drive(&tree.locals, tree.varargs, &tree.formulas).expect("accepted by the Rust");
                 let k = rust.consts.len();
-                let mut small = Buffers::new(&Sizes { code: 8 * n + 1, lines: 8 * n + 1, kinds: k, values: k, pool: rust.pool.len(), scratch: n, counts: 4 });
+                let mut small = fitting(n, k, rust.pool.len());
                 assert_eq!(small.lower(&bytes), 0, "accepted by ours");
                 assert_eq!(small.counts, [rust.code.len() as u64, k as u64, rust.pool.len() as u64, u64::from(rust.frame)]);
                 let mut weavelist = Buffers::new(&Sizes::WEAVELIST);
@@ -107,7 +112,8 @@ pub fn run(only: Option<&str>) {
 pub fn profile(n: usize, is_deep: bool, constants: usize, rust: bool, times: usize) {
     let bytes = chunk_of(n, if is_deep { 390 } else { 100 }, constants, is_deep);
     let tree = chunk::read(&bytes).expect("the form");
-    let mut b = Buffers::new(&Sizes { code: 8 * n + 1, lines: 8 * n + 1, kinds: 300, values: 300, pool: 4096, scratch: n, counts: 4 });
+    let needed = codegen::drive::drive(&tree.locals, tree.varargs, &tree.formulas).expect("accepted by the Rust");
+    let mut b = fitting(n, needed.consts.len(), needed.pool.len());
     for _ in 0..times {
         if rust {
             assert!(black_box(codegen::drive::drive(&tree.locals, tree.varargs, black_box(&tree.formulas))).is_ok());

@@ -94,7 +94,7 @@ fn with_number(e: ExprContext, n: Numeral) -> ExprContext
 // ---- operands
 
 // Whether a value is in a register and has no jumps.
-fn is_placed(e: ExprContext) -> bool
+fn in_register(e: ExprContext) -> bool
     ensures { λ r. ⌜ (not (has-jumps e) && isKind NonReloc e) ≡ r ⌝ }
 {
     if has_jumps(e) {
@@ -115,7 +115,7 @@ fn exp2rk_again(
 ) -> Described
     ensures { λ r. ⌜ exp2rkOf e st (bufs (now (code .entry)) (now (lines .entry)) (now (kinds .entry)) (now (values .entry)) (now (pool .entry))) ≡ describedIs r (bufs (now (code .exit)) (now (lines .exit)) (now (kinds .exit)) (now (values .exit)) (now (pool .exit))) ⌝ }
 {
-    if is_placed(e) {
+    if in_register(e) {
         return Described::Done(st, e);
     }
     exp2rk(code, lines, kinds, values, pool, st, e)
