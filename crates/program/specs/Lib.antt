@@ -1,3 +1,3 @@
-pub mod Weave
+pub mod Weavelist
 pub mod Laws
 pub mod Fits

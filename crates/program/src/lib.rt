@@ -6,7 +6,7 @@ ghost use Rattle.model.specs.Claims.{sizes};
 ghost use Rattle.model.specs.Lowering.{lowered};
 ghost use Rattle.simulation.specs.Texts.{Bytes};
 ghost use Rattle.listing.specs.Page.{left, written};
-ghost use Rattle.weave.specs.Weave.{list-of, weavelist as weavelistOf, whole};
+ghost use Rattle.program.specs.Weavelist.{list-of, weavelist as weavelistOf, whole};
 use listing::Listed;
 use listing::listing;
 use lowering::lower;
@@ -51,7 +51,7 @@ fn fresh_scratch() -> [u32; 16384]
 // ---- listing
 
 // The list of a chunk's lowering in these buffers.
-fn weave_in(
+fn list_in(
     chunk: &[u8],
     code: &mut [u32],
     lines: &mut [u32],
@@ -68,7 +68,7 @@ fn weave_in(
 }
 
 // The list of an input of `weavelist`.
-pub fn weave(input: &[u8], out: &mut [u8]) -> Listed
+pub fn list_bytes(input: &[u8], out: &mut [u8]) -> Listed
     ensures { λ r. ⌜ written (length (now (out .entry))) (weavelistOf (now (input .entry))) ≡ left r (now (out .exit)) ⌝ }
 {
     if input.len() > MAX_INPUT {
@@ -80,7 +80,7 @@ pub fn weave(input: &[u8], out: &mut [u8]) -> Listed
     let mut values = fresh_values();
     let mut pool = fresh_pool();
     let mut scratch = fresh_scratch();
-    weave_in(
+    list_in(
         input,
         &mut code,
         &mut lines,
@@ -93,30 +93,30 @@ pub fn weave(input: &[u8], out: &mut [u8]) -> Listed
 }
 
 // How many bytes were read, and what was listed of them.
-pub struct Woven {
+pub struct InputListed {
     pub read: usize,
     pub listed: Listed,
 }
 
 // Reads what fits the input's buffer, lists it on the page and writes the list. The page and the answer are determined by the bytes read; which these are, and that
 // the list is written out, no contract can say. What the input's buffer then holds are bytes, which the proof of `weavelist` needs.
-fn list_input(input: &mut [u8], page: &mut [u8]) -> Woven
+fn list_input(input: &mut [u8], page: &mut [u8]) -> InputListed
     ensures { λ r. ⌜ (written (length (now (page .entry))) (weavelistOf (take (r .read) (now (input .exit)))) ≡ left (r .listed) (now (page .exit))) × Bytes (now (input .exit)) ⌝ }
 {
     let n = io::read_full(0, input);
-    let listed = weave(&input[..n], page);
+    let listed = list_bytes(&input[..n], page);
     match listed {
         Listed::Written(k) => {
             io::write_all(1, &page[..k]);
         }
         Listed::Short => {}
     }
-    Woven { read: n, listed }
+    InputListed { read: n, listed }
 }
 
 // The program: its input's buffer has one byte more than is allowed. No list is longer than its page (`fits`, specs/Fits.antt), so the answer is never `Short`
 // and the list stands on the page whole.
-pub fn weavelist(input: &mut [u8; 65537], page: &mut [u8; 589824]) -> Woven
+pub fn weavelist(input: &mut [u8; 65537], page: &mut [u8; 589824]) -> InputListed
     ensures { λ r. ⌜ whole (weavelistOf (take (r .read) (now (input .exit)))) ≡ left (r .listed) (now (page .exit)) ⌝ }
 {
     list_input(input, page)

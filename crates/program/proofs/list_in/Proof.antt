@@ -1,7 +1,7 @@
-use Rattle.weave.specs.Laws.{listed-as}
+use Rattle.program.specs.Laws.{listed-as}
 use borrow.Author.Needs.{needs}
-use Rattle.weave.proofs.weave_in.Statement.{statement}
-use Rattle.weave.proofs.weave_in.Tie as tie
+use Rattle.program.proofs.list_in.Statement.{statement}
+use Rattle.program.proofs.list_in.Tie as tie
 
 lower-requires : tie.Need-lower-requires
 lower-requires c κs = search needs
@@ -35,8 +35,8 @@ returns c =
     let p20 = c .before .before .before .before .before .before .before .before .before .before .before .before .before .before .before .before .before .before .before .before in
     listed-as _ ((p20 .lower .ensures) .0) (c .before .before .listing .ensures)
 
-pub weave-in-spec : {M : Type 1} → statement M
-weave-in-spec =
+pub list-in-spec : {M : Type 1} → statement M
+list-in-spec =
     tie.close
     (tie.spec
     lower-requires

@@ -1,7 +1,7 @@
-use Rattle.weave.specs.Fits.{read-whole}
+use Rattle.program.specs.Fits.{read-whole}
 use borrow.Author.Needs.{needs}
-use Rattle.weave.proofs.weavelist.Statement.{statement}
-use Rattle.weave.proofs.weavelist.Tie as tie
+use Rattle.program.proofs.weavelist.Statement.{statement}
+use Rattle.program.proofs.weavelist.Tie as tie
 
 list-input-requires : tie.Need-list-input-requires
 list-input-requires c κs = search needs

@@ -1,8 +1,8 @@
 use native.Mathlib.Omega.{arith}
-use Rattle.weave.specs.Laws.{too-long, within, are-lent}
+use Rattle.program.specs.Laws.{too-long, within, are-lent}
 use borrow.Author.Needs.{needs}
-use Rattle.weave.proofs.weave.Statement.{statement}
-use Rattle.weave.proofs.weave.Tie as tie
+use Rattle.program.proofs.list_bytes.Statement.{statement}
+use Rattle.program.proofs.list_bytes.Tie as tie
 
 slice-aggregate-listing : tie.Need-slice-aggregate-listing
 slice-aggregate-listing c = search needs
@@ -45,26 +45,26 @@ fresh-pool-requires c κs = search needs
 fresh-scratch-requires : tie.Need-fresh-scratch-requires
 fresh-scratch-requires c κs = search needs
 
-slice-aggregate-weave-in : tie.Need-slice-aggregate-weave-in
-slice-aggregate-weave-in c = search needs
+slice-aggregate-list-in : tie.Need-slice-aggregate-list-in
+slice-aggregate-list-in c = search needs
 
-slice-aggregate-weave-in-2 : tie.Need-slice-aggregate-weave-in-2
-slice-aggregate-weave-in-2 c = search needs
+slice-aggregate-list-in-2 : tie.Need-slice-aggregate-list-in-2
+slice-aggregate-list-in-2 c = search needs
 
-slice-aggregate-weave-in-3 : tie.Need-slice-aggregate-weave-in-3
-slice-aggregate-weave-in-3 c = search needs
+slice-aggregate-list-in-3 : tie.Need-slice-aggregate-list-in-3
+slice-aggregate-list-in-3 c = search needs
 
-slice-aggregate-weave-in-4 : tie.Need-slice-aggregate-weave-in-4
-slice-aggregate-weave-in-4 c = search needs
+slice-aggregate-list-in-4 : tie.Need-slice-aggregate-list-in-4
+slice-aggregate-list-in-4 c = search needs
 
-slice-aggregate-weave-in-5 : tie.Need-slice-aggregate-weave-in-5
-slice-aggregate-weave-in-5 c = search needs
+slice-aggregate-list-in-5 : tie.Need-slice-aggregate-list-in-5
+slice-aggregate-list-in-5 c = search needs
 
-slice-aggregate-weave-in-6 : tie.Need-slice-aggregate-weave-in-6
-slice-aggregate-weave-in-6 c = search needs
+slice-aggregate-list-in-6 : tie.Need-slice-aggregate-list-in-6
+slice-aggregate-list-in-6 c = search needs
 
-weave-in-requires : tie.Need-weave-in-requires
-weave-in-requires c κs = search needs
+list-in-requires : tie.Need-list-in-requires
+list-in-requires c κs = search needs
 
 same-length-2 : tie.Need-same-length-2
 same-length-2 c = search needs
@@ -79,10 +79,10 @@ returns-2 c =
     let p20 = p19 .before in
     let p21 = p20 .before in
     let p22 = p21 .before in
-    within _ _ _ (p22 .if1 .left) (are-lent (omega (arith, (p21 .fresh-words .ensures))) (omega (arith, (p20 .fresh-words2 .ensures))) (omega (arith, (p19 .fresh-kinds .ensures))) (omega (arith, (p18 .fresh-values .ensures))) (omega (arith, (p17 .fresh-pool .ensures))) (omega (arith, (p16 .fresh-scratch .ensures)))) (p8 .weave-in .ensures)
+    within _ _ _ (p22 .if1 .left) (are-lent (omega (arith, (p21 .fresh-words .ensures))) (omega (arith, (p20 .fresh-words2 .ensures))) (omega (arith, (p19 .fresh-kinds .ensures))) (omega (arith, (p18 .fresh-values .ensures))) (omega (arith, (p17 .fresh-pool .ensures))) (omega (arith, (p16 .fresh-scratch .ensures)))) (p8 .list-in .ensures)
 
-pub weave-spec : {M : Type 1} → statement M
-weave-spec =
+pub list-bytes-spec : {M : Type 1} → statement M
+list-bytes-spec =
     tie.close
     (tie.spec
     slice-aggregate-listing
@@ -98,12 +98,12 @@ weave-spec =
     fresh-values-requires
     fresh-pool-requires
     fresh-scratch-requires
-    slice-aggregate-weave-in
-    slice-aggregate-weave-in-2
-    slice-aggregate-weave-in-3
-    slice-aggregate-weave-in-4
-    slice-aggregate-weave-in-5
-    slice-aggregate-weave-in-6
-    weave-in-requires
+    slice-aggregate-list-in
+    slice-aggregate-list-in-2
+    slice-aggregate-list-in-3
+    slice-aggregate-list-in-4
+    slice-aggregate-list-in-5
+    slice-aggregate-list-in-6
+    list-in-requires
     same-length-2
     returns-2)
