@@ -1,13 +1,9 @@
 -- Kinds and their numbers: a kind is known by its number. Parts of the definitions that the code has functions for. And of a register only what fits its field counts. Assumes nothing.
-use Prim.Native.Nat.{ℕ, zero, suc, _%_}
+use Prim.Native.Nat.{ℕ, zero, suc}
 use mathlib.Core.Bool.{true, false}
 use mathlib.Core.Path.{_≡_, refl, sym, ap, _∙_}
-use native.Mathlib.Nat.{mod-mod}
 use lib.Dec.{leb}
 use borrow.Author.Tests.{eqb-true}
-use Rattle.instructions.specs.Limits.{aSize}
-use Rattle.instructions.specs.Field.{setAt}
-use Rattle.instructions.specs.Word.{setAOf}
 use Rattle.model.specs.declared.ExprKind.{ExprKind}
 use Rattle.model.specs.declared.ExprKind.the-variants.{Nil, True, False, K, KNum, Local, Global, Indexed, Jmp, Relocable, NonReloc, Call, VarArg}
 use Rattle.model.specs.declared.ExprContext.{ExprContext}
@@ -103,7 +99,3 @@ kind-tag VarArg = refl
 
 pub kind-is : (k : ExprKind) (e : ExprContext) → isKind k e ≡ true → e .kind ≡ k
 kind-is k e h = sym (kind-tag (e .kind)) ∙ ap kindOf (eqb-true _ _ h) ∙ kind-tag k
-
-pub set-a-mod : (w v : ℕ) → setAOf w (v % aSize) ≡ setAOf w v
-unfolding setAt
-set-a-mod w v = rw (mod-mod v aSize)

@@ -1,9 +1,9 @@
 -- Emission step by step: what a definition comes to once its first step's answer is known, as the code reads it. And bounds that a step's success shows. Assumes nothing.
-use Prim.Native.Nat.{ℕ, _+_, _-_, _%_, _<_, _≤_, max}
+use Prim.Native.Nat.{ℕ, _+_, _-_, _<_, _≤_, max}
 use mathlib.Core.Bool.{Bool, true, false, _&&_, _||_}
 use mathlib.Core.List.{List}
 use mathlib.Core.Path.{_≡_, refl, ap, _∙_}
-use native.Mathlib.Nat.{mod-mod, max-eq-left, max-eq-right}
+use native.Mathlib.Nat.{max-eq-left, max-eq-right}
 use native.Mathlib.Omega.{arith}
 use lib.Dec.{eqb, leb, ltb}
 use lib.IntN.{negsuc}
@@ -11,10 +11,8 @@ use lib.ListN.{length, set}
 use borrow.Author.Tests.{lt-ltb, le-ltb, le-leb, lt-leb, eq-eqb, ne-eqb, leb-true, leb-false}
 use Rattle.refusals.specs.declared.Refusal.{Refusal}
 use Rattle.refusals.specs.declared.Refusal.the-variants.{Words, Registers}
-use Rattle.instructions.specs.Limits.{noReg, bitRk, maxWords, maxStack, aSize, bSize, cSize, bxSize}
-use Rattle.instructions.specs.Field.{setAt}
-use Rattle.instructions.specs.Word.{bOf, abcOf, aBxOf, aSbxOf, setBOf}
-use Rattle.opcodes.specs.declared.OpCode.{OpCode}
+use Rattle.instructions.specs.Limits.{noReg, bitRk, maxWords, maxStack}
+use Rattle.instructions.specs.Word.{bOf, aSbxOf, setBOf}
 use Rattle.opcodes.specs.declared.OpCode.the-variants.{LoadBool, LoadNil, Jmp}
 use Rattle.constants.specs.Table.{added, out}
 use Rattle.constants.specs.declared.Val.{Val}
@@ -38,20 +36,6 @@ module _ {A B : Type 0} (f : A → Step B) where
   pub then-refused : {x : Result A} {r : Refusal} {k : Buffers} → x ≡ refused r k → andThen x f ≡ refused r k
   unfolding andThen
   then-refused h = ap (λ (y : Result A). andThen y f) h
-
--- ---- of a value only what fits its field counts
-
-pub abc-mod : (op : OpCode) (a b c : ℕ) → abcOf op (a % aSize) (b % bSize) (c % cSize) ≡ abcOf op a b c
-unfolding abcOf
-abc-mod op a b c = rw (mod-mod a aSize, mod-mod b bSize, mod-mod c cSize)
-
-pub a-bx-mod : (op : OpCode) (a bx : ℕ) → aBxOf op (a % aSize) (bx % bxSize) ≡ aBxOf op a bx
-unfolding aBxOf
-a-bx-mod op a bx = rw (mod-mod a aSize, mod-mod bx bxSize)
-
-pub set-b-mod : (w v : ℕ) → setBOf w (v % bSize) ≡ setBOf w v
-unfolding setAt
-set-b-mod w v = rw (mod-mod v bSize)
 
 -- ---- words
 

@@ -4,7 +4,9 @@ use mathlib.Core.List.{List}
 use mathlib.Core.Path.{_≡_, refl, sym, ap, _∙_}
 use native.Mathlib.Omega.{arith}
 use Rattle.refusals.specs.declared.Refusal.{Refusal}
+use Rattle.instructions.specs.Limits.{bSize}
 use Rattle.instructions.specs.Word.{abcOf}
+use Rattle.instructions.specs.Laws.{abc-same}
 use Rattle.opcodes.specs.declared.OpCode.the-variants as op
 use Rattle.chunk.specs.Form.{maxNesting}
 use Rattle.chunk.specs.declared.header.Header.{Header}
@@ -45,21 +47,20 @@ module _ (f : Step ExprContext) (n : ℕ) (s : State) (m : Buffers) where
 -- ---- the chunk
 
 -- `Return` takes of the number of its values only what fits its field
-more-mod : (a n : ℕ) → abcOf op.Return a (n % 512 + 1) 0 ≡ abcOf op.Return a (n + 1) 0
-unfolding abcOf
-more-mod a n = let z : (n % 512 + 1) % 512 ≡ (n + 1) % 512 = omega arith in rw z refl
+more-mod : (a n : ℕ) → abcOf op.Return a (n % bSize + 1) 0 ≡ abcOf op.Return a (n + 1) 0
+more-mod a n = abc-same op.Return _ _ _ _ _ _ refl (omega arith) refl
 
 module _ (h : Header) (s : State) (m : Buffers) where
   abbrev word-for : ℕ → Result ℕ
   word-for n = emit-abc op.Return (h .locals) n 0 s m
 
-  same-word : word-for (h .formulas % 512 + 1) ≡ word-for (h .formulas + 1)
+  same-word : word-for (h .formulas % bSize + 1) ≡ word-for (h .formulas + 1)
   same-word = ap (λ w. emit w s m) (more-mod (h .locals) (h .formulas))
 
-  pub returning-done : {n : ℕ} {t : State} {k : Buffers} → word-for (h .formulas % 512 + 1) ≡ done n t k → returning h s m ≡ done tt t k
+  pub returning-done : {n : ℕ} {t : State} {k : Buffers} → word-for (h .formulas % bSize + 1) ≡ done n t k → returning h s m ≡ done tt t k
   returning-done q = then-done (λ _. skip) (sym same-word ∙ q)
 
-  pub returning-full : {r : Refusal} {k : Buffers} → word-for (h .formulas % 512 + 1) ≡ refused r k → returning h s m ≡ refused r k
+  pub returning-full : {r : Refusal} {k : Buffers} → word-for (h .formulas % bSize + 1) ≡ refused r k → returning h s m ≡ refused r k
   returning-full q = then-refused (λ _. skip) (sym same-word ∙ q)
 
 module _ (chunk : List ℕ) (h : Header) (s : State) (m : Buffers) where

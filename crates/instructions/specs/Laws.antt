@@ -1,10 +1,13 @@
 -- What a field of a number is after one was set, for any place and size; and, as instances, what a field of a word is after the word was built or another field of it was set.
--- And that words stay below 2 ^ 32, and that sBx reads back what was stored. Assumes nothing.
-use Prim.Native.Nat.{ℕ, _+_, _*_, _/_, _%_, _-_, _^_, _<_, _≤_}
+-- Which word it is after a field of a built one was set; that of a value only what fits its field counts; that words stay below 2 ^ 32; and that sBx reads back what was stored.
+-- Proofs above this crate cite these; the layout itself is unfolded there only where an example is computed. Assumes nothing.
+use Prim.Native.Nat.{ℕ, suc, _+_, _*_, _/_, _%_, _-_, _^_, _<_, _≤_}
+use mathlib.Core.Bool.{Bool, true, false, cond}
 use mathlib.Core.Path.{_≡_, refl, sym, ap, _∙_}
-use native.Mathlib.Nat.{mod-lt, mod-eq-of-lt, div-add-mod', div-div-eq-div-mul, mul-add-div-right, mul-add-mod-self-right, mul-assoc, div-lt-iff-lt-mul}
+use native.Mathlib.Nat.{mod-lt, mod-eq-of-lt, mod-mod, div-add-mod', div-div-eq-div-mul, mul-add-div-right, mul-add-mod-self-right, mul-assoc, div-lt-iff-lt-mul}
 use lib.Arith.{digits-div, digits-mod, digits-lt}
 use native.Mathlib.Omega.{arith}
+use lib.Dec.{ltb}
 use lib.IntN.{ℤ, pos, negsuc}
 use borrow.Author.Tests.{lt-ltb, le-ltb}
 use Rattle.instructions.specs.Limits.{opSize, aSize, bSize, cSize, bxSize, opPlace, aPlace, bPlace, cPlace, bxPlace, maxArgSbx}
@@ -53,6 +56,11 @@ pub set-lt : (p n m x v : ℕ) → 0 < p → 0 < n → x < m * n * p → setAt p
 unfolding setAt
 set-lt p n m x v hp hn hx =
     digits-lt (digits-lt (div-lt-iff-lt-mul hn .1 (div-lt-iff-lt-mul hp .1 hx)) (mod-lt v hn)) (mod-lt x hp)
+
+-- of a value only what fits the field counts
+pub set-mod : (p n x v : ℕ) → setAt p n x (v % n) ≡ setAt p n x v
+unfolding setAt
+set-mod p n x v = rw (mod-mod v n)
 
 pub get-lt : (p n x : ℕ) → 0 < n → getAt p n x < n
 unfolding getAt
@@ -104,9 +112,52 @@ module _ (op : OpCode) (a bx : ℕ) where
   unfolding aBxOf
   a-bx-lt = omega (arith, code-lt op)
 
+-- words of the same fields, each modulo its size
+module _ (op : OpCode) where
+  pub abc-same : (a b c a′ b′ c′ : ℕ) → a % aSize ≡ a′ % aSize → b % bSize ≡ b′ % bSize → c % cSize ≡ c′ % cSize → abcOf op a b c ≡ abcOf op a′ b′ c′
+  unfolding abcOf
+  abc-same a b c a′ b′ c′ x y z = rw (x, y, z)
+
+  pub abc-mod : (a b c : ℕ) → abcOf op (a % aSize) (b % bSize) (c % cSize) ≡ abcOf op a b c
+  abc-mod a b c = abc-same _ _ _ _ _ _ (mod-mod a aSize) (mod-mod b bSize) (mod-mod c cSize)
+
+  pub a-bx-mod : (a bx : ℕ) → aBxOf op (a % aSize) (bx % bxSize) ≡ aBxOf op a bx
+  unfolding aBxOf
+  a-bx-mod a bx = rw (mod-mod a aSize, mod-mod bx bxSize)
+
+-- ---- a word that was built, and then a field of it set
+
+module _ (op : OpCode) (a b c v : ℕ) where
+  pub set-a-abc : setAOf (abcOf op a b c) v ≡ abcOf op v b c
+  unfolding setAt abcOf
+  set-a-abc = omega (arith, code-lt op)
+
+  pub set-b-abc : setBOf (abcOf op a b c) v ≡ abcOf op a v c
+  unfolding setAt abcOf
+  set-b-abc = omega (arith, code-lt op)
+
+  pub set-c-abc : setCOf (abcOf op a b c) v ≡ abcOf op a b v
+  unfolding setAt abcOf
+  set-c-abc = omega (arith, code-lt op)
+
+module _ (op : OpCode) (a bx v : ℕ) where
+  pub set-a-a-bx : setAOf (aBxOf op a bx) v ≡ aBxOf op v bx
+  unfolding setAt aBxOf
+  set-a-a-bx = omega (arith, code-lt op)
+
+  pub set-bx-a-bx : setBxOf (aBxOf op a bx) v ≡ aBxOf op a v
+  unfolding setAt aBxOf
+  set-bx-a-bx = omega (arith, code-lt op)
+
 -- ---- a word in which a field was set
 
 module _ (w v : ℕ) where
+  pub set-a-mod : setAOf w (v % aSize) ≡ setAOf w v
+  set-a-mod = set-mod aPlace aSize w v
+
+  pub set-b-mod : setBOf w (v % bSize) ≡ setBOf w v
+  set-b-mod = set-mod bPlace bSize w v
+
   pub op-set-a : opOf (setAOf w v) ≡ opOf w
   op-set-a = get-set-lower opPlace opSize aPlace aSize w v (omega arith) refl
 
@@ -207,3 +258,16 @@ sbx-a-sbx op a v h = sbx-excess (aSbxOf op a v) v h (bx-a-bx op a (excess v) ∙
 
 pub sbx-set-sbx : (w : ℕ) (v : ℤ) → InSbx v → sbxOf (setSbxOf w v) ≡ v
 sbx-set-sbx w v h = sbx-excess (setSbxOf w v) v h (bx-set-bx w (excess v) ∙ mod-eq-of-lt (excess-lt v))
+
+-- every word's sBx is in that range; that of a word of zeros leads back
+pub sbx-in : (w : ℕ) → InSbx (sbxOf w)
+unfolding sbxOf
+sbx-in w = go (ltb (bxOf w) maxArgSbx)
+  where
+    go : (t : Bool) → InSbx (cond t (negsuc (maxArgSbx - suc (bxOf w))) (pos (bxOf w - maxArgSbx)))
+    go true = omega arith
+    go false = omega (arith, get-lt bxPlace bxSize w (omega arith))
+
+pub sbx-zero : sbxOf 0 ≡ negsuc (maxArgSbx - 1)
+unfolding sbxOf getAt
+sbx-zero = refl

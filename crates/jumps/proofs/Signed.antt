@@ -12,12 +12,11 @@ use borrow.Author.Tests.{le-ltb, ltb-true, ltb-false, leb-false}
 use mir.Syntax.{w32, w64}
 use mir.Val.{Fits, SFits, toZ, ofZ}
 use mir.ValLaws.{toZ-pos, toZ-ofZ}
-use Rattle.instructions.specs.Limits.{bxPlace, bxSize, maxArgSbx}
-use Rattle.instructions.specs.Field.{getAt}
-use Rattle.instructions.specs.Laws.{get-lt}
-use Rattle.instructions.specs.Word.{bxOf, sbxOf, excess}
+use Rattle.instructions.specs.Limits.{bxSize}
+use Rattle.instructions.specs.Word.{sbxOf, excess}
+use Rattle.instructions.specs.Laws.{InSbx, sbx-in, sbx-zero}
+use Rattle.instructions.specs.Offset.{excess-modulo}
 use Rattle.model.specs.Jumps.{word, behind}
-use Rattle.jumps.specs.Offset.{excess-modulo}
 use Rattle.jumps.specs.Walk.{Fitting}
 
 -- a number that 32 bits hold is what they are read as
@@ -100,16 +99,14 @@ module _ (list : ℕ) (v : ℤ) (f : SFits w32 v) (p : Fitting list v) where
           go (negsuc (suc n)) p t e = omega arith
 
 near : (list w : ℕ) → 0 < list → list < 2 ^ 63 + 1 → Fitting list (sbxOf w)
-unfolding sbxOf
-near list w h k = turn (ltb (bxOf w) maxArgSbx)
+near list w h k = go (sbxOf w) (sbx-in w)
   where
-    turn : (t : Bool) → Fitting list (cond t (negsuc (maxArgSbx - suc (bxOf w))) (pos (bxOf w - maxArgSbx)))
-    turn true = h
-    turn false = (h, omega (arith, get-lt bxPlace bxSize w (omega arith)))
+    go : (v : ℤ) → InSbx v → Fitting list v
+    go (pos n) i = (h, omega (arith, i))
+    go (negsuc n) i = h
 
 zeros : (list : ℕ) → 0 < list → Fitting list (sbxOf 0)
-unfolding sbxOf getAt
-zeros list h = h
+zeros list h = rw sbx-zero h
 
 -- a word's own jump leads to at most the 131,073rd word behind it, and past the end all words are 0, whose jump leads back
 pub fitting : (code : List ℕ) (list : ℕ) → 0 < list → length code < 2 ^ 63 → Fitting list (sbxOf (word code (list - 1)))

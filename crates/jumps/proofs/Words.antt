@@ -2,18 +2,13 @@
 use Prim.Native.Nat.{ℕ, _%_}
 use mathlib.Core.Bool.{or-true}
 use mathlib.Core.Path.{_≡_, sym}
-use native.Mathlib.Nat.{mod-mod}
 use lib.Dec.{eqb}
 use borrow.Author.Tests.{eq-eqb, ne-eqb}
 use Rattle.instructions.specs.Limits.{aSize, noReg}
-use Rattle.instructions.specs.Field.{setAt}
 use Rattle.instructions.specs.Word.{bOf, cOf, setAOf, abcOf}
+use Rattle.instructions.specs.Laws.{set-a-mod}
 use Rattle.opcodes.specs.declared.OpCode.the-variants.{Test}
 use Rattle.model.specs.Jumps.{retest}
-
-set-a-mod : (w v : ℕ) → setAOf w (v % aSize) ≡ setAOf w v
-unfolding setAt
-set-a-mod w v = rw (mod-mod v aSize)
 
 module _ (reg w : ℕ) where
   pub retest-own : reg ≡ bOf w → retest reg w ≡ abcOf Test (bOf w) 0 (cOf w)

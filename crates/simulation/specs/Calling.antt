@@ -10,6 +10,7 @@ use lib.Dec.{eqb}
 use borrow.Author.Tests.{lt-ltb}
 use Rattle.instructions.specs.Limits.{noReg}
 use Rattle.instructions.specs.Word.{setAOf, setBOf, setCOf, abcOf}
+use Rattle.instructions.specs.Laws.{set-a-abc, set-b-abc, set-c-abc}
 use Rattle.opcodes.specs.declared.OpCode.the-variants as op
 use Rattle.constants.specs.Entry.{Constant, nil, truth, number, text}
 use Rattle.model.specs.declared.ExprKind.the-variants as kind
@@ -29,14 +30,14 @@ use Rattle.labelled.specs.Fresh.{On, flush-u, next-on, dv-new}
 use Rattle.labelled.specs.Owning.{freed-own}
 use Rattle.labelled.specs.Discharge.{kc, kr, kx, kj, K, kd, kl, kg, ki, kcl, kva, Pair, fresh, dv, nextreg, freed}
 use Rattle.labelled.specs.Expressions.{closedCall, lastArg}
-use Rattle.threads.specs.Words.{word-same, word-other, set-a-abc}
+use Rattle.threads.specs.Words.{word-same, word-other}
 use Rattle.threads.specs.Represents.{setH}
 use Rattle.threads.specs.Holding.{Ends, gives, ends-then, with-code}
 use Rattle.threads.specs.Coded.{CodesC, wide, agree-c}
 use Rattle.simulation.specs.Sim.{Env, Sim, Sims, Is, SimD, Sound}
 use Rattle.simulation.specs.Steps.{sim-emit-at, sim-over}
 use Rattle.simulation.specs.Registers.{chosen, reserve-any, sim-fewer}
-use Rattle.simulation.specs.Discharging.{set-b-abc, set-c-abc, sound-dv}
+use Rattle.simulation.specs.Discharging.{sound-dv}
 use Rattle.simulation.specs.Loading.{then-done}
 use Rattle.simulation.specs.ToRegister.{sim-next}
 use Rattle.simulation.specs.Late.{fresh-held}

@@ -9,6 +9,7 @@ use lib.ListN.{set}
 use lib.Dec.{eqb}
 use Rattle.opcodes.specs.OpCodes.{codeOf}
 use Rattle.instructions.specs.Word.{setBOf, abcOf}
+use Rattle.instructions.specs.Laws.{set-b-abc}
 use Rattle.opcodes.specs.declared.OpCode.the-variants as op
 use Rattle.folding.specs.declared.Arith.the-variants as ar
 use Rattle.constants.specs.Entry.{Constant, nil as knil, truth as ktruth, number as knumber, text as ktext}
@@ -38,7 +39,7 @@ use Rattle.simulation.specs.Sim.{Env, Sim, Is4, SimD, SimR, Sound}
 use Rattle.simulation.specs.Steps.{sim-emit, sim-replace}
 use Rattle.simulation.specs.Absent.{under-both}
 use Rattle.simulation.specs.Registers.{chosen, sim-fewer}
-use Rattle.simulation.specs.Discharging.{sound-dv, set-b-abc}
+use Rattle.simulation.specs.Discharging.{sound-dv}
 use Rattle.simulation.specs.Loading.{kindOf, kind-is, then-done}
 use Rattle.simulation.specs.ToRegister.{sim-next, sim-next₄}
 use Rattle.simulation.specs.AnyRegister.{SimV, landed, plain, sim-val}

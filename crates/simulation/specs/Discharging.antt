@@ -6,11 +6,8 @@ use mathlib.Core.List.{List, _∷_}
 use native.Mathlib.Omega.{arith}
 use lib.ListN.{set}
 use lib.Seq.{set-getD}
-use Rattle.instructions.specs.Field.{setAt}
-use Rattle.instructions.specs.Word.{setBOf, setCOf, abcOf, aBxOf}
-use Rattle.opcodes.specs.Laws.{code-lt}
-use Rattle.instructions.specs.Laws.{a-abc}
-use Rattle.opcodes.specs.declared.OpCode.{OpCode}
+use Rattle.instructions.specs.Word.{setCOf, abcOf, aBxOf}
+use Rattle.instructions.specs.Laws.{a-abc, set-b-abc, set-c-abc}
 use Rattle.opcodes.specs.declared.OpCode.the-variants as op
 use Rattle.constants.specs.Entry.{Constant, nil, truth, number, text}
 use Rattle.model.specs.declared.ExprKind.{ExprKind}
@@ -35,16 +32,6 @@ use Rattle.threads.specs.Coded.{CodesC}
 use Rattle.simulation.specs.Sim.{Env, Sim, drop, SimD, Sound}
 use Rattle.simulation.specs.Steps.{sim-emit, set-other}
 use Rattle.simulation.specs.Registers.{free-is, sim-fewer}
-
--- ---- words
-
-pub set-b-abc : (o : OpCode) (a b c v : ℕ) → setBOf (abcOf o a b c) v ≡ abcOf o a v c
-unfolding setAt abcOf
-set-b-abc o a b c v = omega (arith, code-lt o)
-
-pub set-c-abc : (o : OpCode) (a b c v : ℕ) → setCOf (abcOf o a b c) v ≡ abcOf o a b v
-unfolding setAt abcOf
-set-c-abc o a b c v = omega (arith, code-lt o)
 
 -- the last word of a call
 module _ (t : List Constant) (F : ℕ) (ws : List ℕ) where

@@ -8,10 +8,8 @@ use native.Mathlib.Omega.{arith}
 use lib.Dec.{eqb}
 use borrow.Author.Tests.{lt-ltb}
 use Rattle.instructions.specs.Limits.{maxWords}
-use Rattle.instructions.specs.Field.{setAt}
 use Rattle.instructions.specs.Word.{setAOf, abcOf, aBxOf}
-use Rattle.opcodes.specs.Laws.{code-lt}
-use Rattle.opcodes.specs.declared.OpCode.{OpCode}
+use Rattle.instructions.specs.Laws.{set-a-abc, set-a-a-bx}
 use Rattle.opcodes.specs.declared.OpCode.the-variants as op
 use Rattle.constants.specs.Entry.{Constant, nil, truth, number, text}
 use Rattle.model.specs.declared.ExprKind.{ExprKind}
@@ -35,7 +33,6 @@ use Rattle.labelled.specs.Firm.{true≢false}
 use Rattle.labelled.specs.Fresh.{Under}
 use Rattle.labelled.specs.Discharge.{K4, kc, kr, kx, kj, K, d2r, isCmp}
 use Rattle.labelled.specs.Owning.{Own4}
-use Rattle.threads.specs.Words.{set-a-abc}
 use Rattle.threads.specs.Represents.{setH}
 use Rattle.threads.specs.Coded.{CodesV, CodesX, Codes}
 use Rattle.threads.specs.Holding.{Ends, gives, ends-then, with-code}
@@ -143,23 +140,19 @@ module _ (Γ : Env) (s : State) (m : Buffers) (H : ℕ → ℕ) (e : ExprContext
 
 -- ---- `discharge2reg`
 
-pub set-a-abx : (o : OpCode) (a x v : ℕ) → setAOf (aBxOf o a x) v ≡ aBxOf o v x
-unfolding setAt aBxOf
-set-a-abx o a x v = omega (arith, code-lt o)
-
 -- a word that gets its register
 module _ (t : List Constant) (F w r : ℕ) where
   set-a-v : (v : Value) → CodesV t F w 0 v → CodesV t F (setAOf w r) r v
   set-a-v vnil h = h
   set-a-v (vtruth b) h = rw h (set-a-abc op.LoadBool 0 (bit b) 0 r)
-  set-a-v (vnumber n) h = (h .0, rw (h .1) (set-a-abx op.LoadK 0 _ r))
-  set-a-v (vtext x) h = (h .0, rw (h .1) (set-a-abx op.LoadK 0 _ r))
+  set-a-v (vnumber n) h = (h .0, rw (h .1) (set-a-a-bx op.LoadK 0 _ r))
+  set-a-v (vtext x) h = (h .0, rw (h .1) (set-a-a-bx op.LoadK 0 _ r))
   set-a-v (other i) h = h
 
   pub set-a-x : (x : Ex) → CodesX t F w 0 x → CodesX t F (setAOf w r) r x
   set-a-x (val v) h = set-a-v v h
   set-a-x (cp a) h = (h .0, rw (h .1) (set-a-abc op.Move 0 a 0 r))
-  set-a-x (glob g) h = (h .0, rw (h .1) (set-a-abx op.GetGlobal 0 _ r))
+  set-a-x (glob g) h = (h .0, rw (h .1) (set-a-a-bx op.GetGlobal 0 _ r))
   set-a-x (idx a k) h = (h .0, (h .1 .0, (h .1 .1 .0, rw (h .1 .1 .1) (set-a-abc op.GetTable 0 a (h .0) r))))
   set-a-x (ari o x y) h = (h .0, (h .1 .0, (h .1 .1 .0, (h .1 .1 .1 .0, (h .1 .1 .1 .1 .0, rw (h .1 .1 .1 .1 .1) (set-a-abc (arithOp o) 0 (h .0) (h .1 .0) r))))))
   set-a-x (neg a) h = (h .0, rw (h .1) (set-a-abc op.Unm 0 a 0 r))

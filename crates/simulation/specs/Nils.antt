@@ -9,11 +9,9 @@ use native.Mathlib.Nat.{zero-add}
 use lib.ListN.{set}
 use lib.Dec.{eqb, leb, ltb}
 use borrow.Author.Tests.{le-leb, lt-leb, eq-eqb, ne-eqb, leb-true, leb-false, ltb-true, ltb-false}
-use Rattle.instructions.specs.Field.{setAt}
 use Rattle.opcodes.specs.OpCodes.{codeOf}
 use Rattle.instructions.specs.Word.{aOf, bOf, setBOf, abcOf}
-use Rattle.opcodes.specs.Laws.{code-lt}
-use Rattle.instructions.specs.Laws.{op-abc, a-abc, b-abc}
+use Rattle.instructions.specs.Laws.{op-abc, a-abc, b-abc, set-b-abc}
 use Rattle.opcodes.specs.declared.OpCode.{OpCode}
 use Rattle.opcodes.specs.declared.OpCode.the-variants as op
 use Rattle.constants.specs.Entry.{Constant}
@@ -136,10 +134,6 @@ picked-label a x y e = rw e refl
 picked-other : {A : Type 0} (a b c : Bool) (x y z : A) → b ≡ false → c ≡ false → pick a (pick b x (pick c y z)) z ≡ z
 picked-other true b c x y z p q = rw (p, q) refl
 picked-other false b c x y z p q = refl
-
-set-b-abc : (o : OpCode) (a b c v : ℕ) → setBOf (abcOf o a b c) v ≡ abcOf o a v c
-unfolding setAt abcOf
-set-b-abc o a b c v = omega (arith, code-lt o)
 
 module _ {Γ : Env} {s : State} {m : Buffers} {H : ℕ → ℕ} (σ : St) (h : Sim Γ s m H (σ .code) (σ .free) (σ .tab)) (r : ℕ) (below : r < s .frame) where
   -- the lists of all labels but 0 are as they were

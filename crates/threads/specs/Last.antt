@@ -9,13 +9,13 @@ use lib.ListN.{length, set, length-set}
 use lib.Dec.{eqb}
 use Rattle.instructions.specs.Limits.{maxWords, noReg, aSize}
 use Rattle.instructions.specs.Word.{aOf, setAOf, abcOf}
-use Rattle.instructions.specs.Laws.{a-abc}
+use Rattle.instructions.specs.Laws.{a-abc, set-a-abc}
 use Rattle.opcodes.specs.declared.OpCode.the-variants.{Test}
 use Rattle.model.specs.Values.{Kind}
 use Rattle.model.specs.Jumps.{word, get-jump-control}
 use Rattle.model.specs.Conditions.{bit}
 use Rattle.labelled.specs.Code.{Rk, same, same-ne, same-true, same-false, test, cmp, lbl, PW, mark, Instr, pl, br, pwidth, width, Code, size}
-use Rattle.threads.specs.Words.{word-same, word-other, set-a-abc}
+use Rattle.threads.specs.Words.{word-same, word-other}
 use Rattle.threads.specs.Places.{key, isLab, isL, look, look-beyond, look-range, mem, count}
 use Rattle.threads.specs.Encoding.{comparison, comparison-tests, Coding, pend, EncI, enc-agree}
 use Rattle.threads.specs.Turns.{ctl-pair, tests}

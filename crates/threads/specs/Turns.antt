@@ -5,20 +5,21 @@ use mathlib.Core.Bool.{Bool, true, false, _||_}
 use mathlib.Core.Path.{_≡_, refl, ap, sym, _∙_}
 use mathlib.Core.List.{List, [], _∷_}
 use mathlib.Core.Option.{Option, some, none}
+use native.Mathlib.Nat.{mod-mod}
 use native.Mathlib.Omega.{arith}
 use lib.ListN.{length, set, length-set}
 use lib.Dec.{eqb}
 use borrow.Author.Tests.{eqb-true}
-use Rattle.instructions.specs.Limits.{maxWords, noReg, bSize}
+use Rattle.instructions.specs.Limits.{maxWords, noReg, bSize, cSize}
 use Rattle.opcodes.specs.OpCodes.{codeOf, testMode}
 use Rattle.instructions.specs.Word.{opOf, abcOf}
-use Rattle.instructions.specs.Laws.{op-abc, b-abc, c-abc, opcode-abc}
+use Rattle.instructions.specs.Laws.{op-abc, b-abc, c-abc, opcode-abc, abc-same, set-a-abc}
 use Rattle.opcodes.specs.declared.OpCode.{OpCode}
 use Rattle.opcodes.specs.declared.OpCode.the-variants.{Test, TestSet}
 use Rattle.model.specs.Jumps.{word, isOp, get-jump-control, keeps-value, retest}
 use Rattle.model.specs.Conditions.{bit}
 use Rattle.labelled.specs.Code.{same, same-refl, same-false, Ctrl, always, test, tset, tseta, cmp, to, lbl, Instr, pl, br, Code, size, land, re, settest}
-use Rattle.threads.specs.Words.{word-same, word-other, IsJ, is-jmp, op-jmp, set-a-abc, abc-c, jmpTo, jumpTo, ret, ret-is, retest-is, patchAt, jumped, jumped-off, len-jump}
+use Rattle.threads.specs.Words.{word-same, word-other, IsJ, is-jmp, op-jmp, jmpTo, jumpTo, ret, ret-is, retest-is, patchAt, jumped, jumped-off, len-jump}
 use Rattle.threads.specs.Places.{jofs, tail, key, edI, atPos, width-edI}
 use Rattle.threads.specs.Encoding.{isTest, comparison, comparison-tests, comparison-keeps-none, Coding, pend, isP, Ctl, Open, EncI, Enc, local-step}
 use Rattle.labelled.specs.Machine.{pick}
@@ -104,7 +105,7 @@ optR r = pick (same r noReg) none (some r)
 pub retested : (reg b : ℕ) (k : Bool) → b < noReg → retest reg (abcOf TestSet noReg b (bit k)) ≡ pick (same reg noReg || same reg b) (abcOf Test b 0 (bit k)) (abcOf TestSet reg b (bit k))
 retested reg b k h =
     let e : b % bSize ≡ b = omega arith in
-    retest-is reg (abcOf TestSet noReg b (bit k)) ∙ rw (b-abc TestSet noReg b (bit k), c-abc TestSet noReg b (bit k), set-a-abc TestSet noReg b (bit k) reg, e, abc-c Test b 0 (bit k)) refl
+    retest-is reg (abcOf TestSet noReg b (bit k)) ∙ rw (b-abc TestSet noReg b (bit k), c-abc TestSet noReg b (bit k), set-a-abc TestSet noReg b (bit k) reg, e, abc-same Test b 0 (bit k % cSize) b 0 (bit k) refl refl (mod-mod (bit k) cSize)) refl
 
 -- what is known of a control word
 pub tests : (w : ℕ) (op : OpCode) (a b c : ℕ) → w ≡ abcOf op a b c → testMode op ≡ true → isTest w ≡ true

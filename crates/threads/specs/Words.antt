@@ -1,6 +1,6 @@
 -- The words that jump lists touch, and the model's jump operations in the form that the proofs use: a Jmp keeps its opcode and A = 0 whatever its sBx is,
 -- sBx = -1 ends a list, and a Jmp that is sent to word t leads to the list t + 1. Instances of the laws of fields; places are below the limit of words, so that sBx reads back.
-use Prim.Native.Nat.{ℕ, zero, suc, _+_, _-_, _%_, _≤_, _<_}
+use Prim.Native.Nat.{ℕ, zero, suc, _+_, _-_, _≤_, _<_}
 use mathlib.Core.Bool.{Bool, true, false, _||_}
 use mathlib.Core.Path.{_≡_, refl, ap, _∙_}
 use mathlib.Core.List.{List}
@@ -11,13 +11,10 @@ use lib.Seq.{getD-set-same, getD-set-other}
 use lib.IntN.{pos, negsuc, _-ℤ_, subℕ}
 use lib.Dec.{eqb, ltb}
 use borrow.Author.Tests.{ltb-true, ltb-false}
-use Rattle.instructions.specs.Limits.{maxWords, noReg, cSize}
-use Rattle.instructions.specs.Field.{setAt}
+use Rattle.instructions.specs.Limits.{maxWords, noReg}
 use Rattle.opcodes.specs.OpCodes.{codeOf}
 use Rattle.instructions.specs.Word.{opOf, bOf, cOf, sbxOf, setAOf, setBxOf, excess, abcOf, aBxOf, aSbxOf}
-use Rattle.opcodes.specs.Laws.{code-lt}
-use Rattle.instructions.specs.Laws.{op-a-bx, InSbx, sbx-a-sbx}
-use Rattle.opcodes.specs.declared.OpCode.{OpCode}
+use Rattle.instructions.specs.Laws.{op-a-bx, set-bx-a-bx, InSbx, sbx-a-sbx}
 use Rattle.opcodes.specs.declared.OpCode.the-variants.{Jmp, Test}
 use Rattle.labelled.specs.Code.{same}
 use Rattle.threads.specs.Edits.{pick-is}
@@ -45,21 +42,8 @@ is-jmp x = record { bx = x; is = refl }
 pub op-jmp : (w : ℕ) → IsJ w → opOf w ≡ codeOf Jmp
 op-jmp w h = rw (h .is) (op-a-bx Jmp 0 (h .bx))
 
-set-bx-of : (x v : ℕ) → setBxOf (aBxOf Jmp 0 x) v ≡ aBxOf Jmp 0 v
-unfolding setAt aBxOf
-set-bx-of x v = omega arith
-
 pub set-bx-jmp : (w v : ℕ) → IsJ w → setBxOf w v ≡ aBxOf Jmp 0 v
-set-bx-jmp w v h = rw (h .is) (set-bx-of (h .bx) v)
-
--- a word in which A was set
-pub set-a-abc : (op : OpCode) (a b c v : ℕ) → setAOf (abcOf op a b c) v ≡ abcOf op v b c
-unfolding setAt abcOf
-set-a-abc op a b c v = omega (arith, code-lt op)
-
-pub abc-c : (op : OpCode) (a b c : ℕ) → abcOf op a b (c % cSize) ≡ abcOf op a b c
-unfolding abcOf
-abc-c op a b c = omega arith
+set-bx-jmp w v h = rw (h .is) (set-bx-a-bx Jmp 0 (h .bx) v)
 
 -- ---- a Jmp at word p that leads to word q
 

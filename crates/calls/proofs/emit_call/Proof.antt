@@ -1,7 +1,7 @@
 -- `calls::emit_call` meets its contract, by those of `emit_at` and `above`; of each operand only what fits its field counts. Assumes nothing.
 use mathlib.Core.Path.{sym, _∙_}
 use Rattle.opcodes.specs.declared.OpCode.the-variants as op
-use Rattle.emission.specs.Laws.{abc-mod}
+use Rattle.instructions.specs.Laws.{abc-mod}
 use Rattle.discharge.specs.Laws.{given-told}
 use Rattle.calls.specs.Laws.{call-done, call-refused}
 use borrow.Author.Needs.{needs}

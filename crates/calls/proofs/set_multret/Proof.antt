@@ -1,6 +1,6 @@
 -- `calls::set_multret` meets its contract, by whether the kind is a call; of the register only what fits its field counts. Assumes nothing.
 use mathlib.Core.Path.{_∙_}
-use Rattle.discharge.specs.Kinds.{set-a-mod}
+use Rattle.instructions.specs.Laws.{set-a-mod}
 use Rattle.calls.specs.Laws.{multret-call, multret-vararg}
 use borrow.Author.Needs.{needs}
 use Rattle.calls.proofs.set_multret.Statement.{statement}

@@ -1,5 +1,5 @@
 -- `discharge::set_a_at` meets its contract, by those of `word_at`, `set_a` and `put_word`; of the register only what fits its field counts. Assumes nothing.
-use Rattle.discharge.specs.Kinds.{set-a-mod}
+use Rattle.instructions.specs.Laws.{set-a-mod}
 use borrow.Author.Needs.{needs}
 use Rattle.discharge.proofs.set_a_at.Statement.{statement}
 use Rattle.discharge.proofs.set_a_at.Tie as tie

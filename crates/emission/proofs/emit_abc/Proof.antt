@@ -1,5 +1,5 @@
 -- `emission::emit_abc` meets its contract, by that of `emit`; of each operand only what fits its field counts. Assumes nothing.
-use Rattle.emission.specs.Laws.{abc-mod}
+use Rattle.instructions.specs.Laws.{abc-mod}
 use borrow.Author.Needs.{needs}
 use Rattle.emission.proofs.emit_abc.Statement.{statement}
 use Rattle.emission.proofs.emit_abc.Tie as tie

@@ -1,5 +1,5 @@
 -- `emission::emit_abx` meets its contract, by that of `emit`; of each operand only what fits its field counts. Assumes nothing.
-use Rattle.emission.specs.Laws.{a-bx-mod}
+use Rattle.instructions.specs.Laws.{a-bx-mod}
 use borrow.Author.Needs.{needs}
 use Rattle.emission.proofs.emit_abx.Statement.{statement}
 use Rattle.emission.proofs.emit_abx.Tie as tie

@@ -1,6 +1,7 @@
 -- `emission::emit_nil` meets its contract, by its five ways out (specs/Laws.antt). Assumes nothing.
 use mathlib.Core.Path.{_∙_}
-use Rattle.emission.specs.Laws.{nil-labelled, nil-start, nil-apart, nil-within, nil-longer, set-b-mod}
+use Rattle.instructions.specs.Laws.{set-b-mod}
+use Rattle.emission.specs.Laws.{nil-labelled, nil-start, nil-apart, nil-within, nil-longer}
 use borrow.Author.Needs.{needs}
 use Rattle.emission.proofs.emit_nil.Statement.{statement}
 use Rattle.emission.proofs.emit_nil.Tie as tie

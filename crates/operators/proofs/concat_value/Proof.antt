@@ -2,7 +2,7 @@
 use native.Mathlib.Omega.{arith}
 use mathlib.Core.Path.{_∙_}
 use Rattle.discharge.specs.Laws.{described-told}
-use Rattle.emission.specs.Laws.{set-b-mod}
+use Rattle.instructions.specs.Laws.{set-b-mod}
 use Rattle.operators.specs.Laws.{joined-longer, joined-next, joined-refused}
 use borrow.Author.Needs.{needs}
 use Rattle.operators.proofs.concat_value.Statement.{statement}
