@@ -1,5 +1,6 @@
 // The program `weavelist` as functions: the list of an input, in a lent buffer; and reading, listing, writing.
 ghost use mathlib.Core.Path.{_≡_};
+ghost use Prim.Native.Nat.{_≤_};
 ghost use lib.ListN.{length, take};
 ghost use Rattle.model.specs.Steps.{bufs};
 ghost use Rattle.model.specs.Claims.{sizes};
@@ -101,7 +102,7 @@ pub struct InputListed {
 // Reads what fits the input's buffer, lists it on the page and writes the list. The page and the answer are determined by the bytes read; which these are, and that
 // the list is written out, no contract can say. What the input's buffer then holds are bytes, which the proof of `weavelist` needs.
 fn list_input(input: &mut [u8], page: &mut [u8]) -> InputListed
-    ensures { λ r. ⌜ (written (length (now (page .entry))) (weavelistOf (take (r .read) (now (input .exit)))) ≡ left (r .listed) (now (page .exit))) × Bytes (now (input .exit)) ⌝ }
+    ensures { λ r. ⌜ (written (length (now (page .entry))) (weavelistOf (take (r .read) (now (input .exit)))) ≡ left (r .listed) (now (page .exit))) × Bytes (now (input .exit)) × (r .read ≤ length (now (input .exit))) ⌝ }
 {
     let n = io::read_full(0, input);
     let listed = list_bytes(&input[..n], page);
@@ -117,7 +118,7 @@ fn list_input(input: &mut [u8], page: &mut [u8]) -> InputListed
 // The program: its input's buffer has one byte more than is allowed. No list is longer than its page (`fits`, specs/Fits.antt), so the answer is never `Short`
 // and the list stands on the page whole.
 pub fn weavelist(input: &mut [u8; 65537], page: &mut [u8; 589824]) -> InputListed
-    ensures { λ r. ⌜ whole (weavelistOf (take (r .read) (now (input .exit)))) ≡ left (r .listed) (now (page .exit)) ⌝ }
+    ensures { λ r. ⌜ (whole (weavelistOf (take (r .read) (now (input .exit)))) ≡ left (r .listed) (now (page .exit))) × (r .read ≤ 65537) ⌝ }
 {
     list_input(input, page)
 }

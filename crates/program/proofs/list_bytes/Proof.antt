@@ -1,3 +1,4 @@
+-- `program::list_bytes` meets its contract: an input that is too long is listed as its refusal, any other in fresh buffers of the stated lengths. Assumes nothing.
 use native.Mathlib.Omega.{arith}
 use Rattle.program.specs.Laws.{too-long, within, are-lent}
 use borrow.Author.Needs.{needs}

@@ -1,3 +1,4 @@
+-- `program::list_in` meets its contract: what `lower` leaves, listed by `listing`. Assumes nothing.
 use Rattle.program.specs.Laws.{listed-as}
 use borrow.Author.Needs.{needs}
 use Rattle.program.proofs.list_in.Statement.{statement}

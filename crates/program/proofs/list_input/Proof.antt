@@ -1,3 +1,4 @@
+-- `program::list_input` meets its contract, by those of `read_full` and `list_bytes`; what is written out is the list on the page. Assumes nothing.
 use mathlib.Core.Path.{sym}
 use native.Mathlib.Omega.{arith}
 use lib.Seq.{length-take-le}
@@ -48,7 +49,8 @@ returns c =
     let p3 = c .before .before .before in
     let p7 = p3 .before .before .before .before in
     let p10 = p7 .before .before .before in
-    (listed-told (p7 .list-bytes .ensures) (p3 .listed .given .1), λ i. omega (arith, p10 .slice-known3 .given i))
+    let p12 = p10 .before .before in
+    (listed-told (p7 .list-bytes .ensures) (p3 .listed .given .1), λ i. omega (arith, p10 .slice-known3 .given i), p12 .read-full .ensures .0)
 
 same-length-3 : tie.Need-same-length-3
 same-length-3 c = search needs
@@ -60,7 +62,8 @@ returns-2 : tie.Need-returns-2
 returns-2 c =
     let p4 = c .before .before .before .before in
     let p7 = p4 .before .before .before in
-    (p4 .list-bytes .ensures, λ i. omega (arith, p7 .slice-known3 .given i))
+    let p9 = p7 .before .before in
+    (p4 .list-bytes .ensures, λ i. omega (arith, p7 .slice-known3 .given i), p9 .read-full .ensures .0)
 
 pub list-input-spec : {M : Type 1} → statement M
 list-input-spec =
