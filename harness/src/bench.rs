@@ -108,6 +108,37 @@ pub fn run(only: Option<&str>) {
     }
 }
 
+/// All bytes once, eight at a time: true where one isn't 0.
+#[inline(always)]
+fn any_set(s: &[u64]) -> bool { s.iter().fold(0, |a, b| a | b) != 0 }
+
+#[cfg(target_arch = "x86_64")]
+#[target_feature(enable = "avx2")]
+fn any_set_wide(s: &[u64]) -> bool { any_set(s) }
+
+/// As wide as the machine reads.
+fn looked_at(s: &[u64]) -> bool {
+    #[cfg(target_arch = "x86_64")]
+    if is_x86_feature_detected!("avx2") {
+        // the machine has what the function was compiled for
+        return unsafe { any_set_wide(s) };
+    }
+    any_set(s)
+}
+
+/// What no lowering can go below that leaves zeros in `weavelist`'s buffers, whatever they held: each byte is written, or at least looked at.
+pub fn clearing() {
+    let z = Sizes::WEAVELIST;
+    let bytes = 4 * (z.code + z.lines + z.scratch) + z.kinds + 8 * z.values + z.pool;
+    let mut s = vec![0u64; bytes / 8];
+    let (mut written, mut read) = (Vec::new(), Vec::new());
+    for _ in 0..ROUNDS {
+        written.push(time(4000, || black_box(&mut s[..]).fill(0)));
+        read.push(time(4000, || { black_box(looked_at(black_box(&s))); }));
+    }
+    println!("{bytes} bytes, as many as weavelist lends, median of {ROUNDS} rounds: {:.0} nanoseconds to write zeros, {:.0} to look at them only.", median(written), median(read));
+}
+
 /// One of the two alone, so many times: for a profiler.
 pub fn profile(n: usize, is_deep: bool, constants: usize, rust: bool, times: usize) {
     let bytes = chunk_of(n, if is_deep { 390 } else { 100 }, constants, is_deep);

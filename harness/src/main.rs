@@ -18,12 +18,13 @@ fn run() -> i32 {
     match args.iter().map(String::as_str).collect::<Vec<_>>()[..] {
         ["bench"] => { bench::run(None); 0 }
         ["bench", only] => { bench::run(Some(only)); 0 }
+        ["clearing"] => { bench::clearing(); 0 }
         ["profile", who, nodes, shape, constants, times] => { bench::profile(nodes.parse().unwrap(), shape == "deep", constants.parse().unwrap(), who == "rust", times.parse().unwrap()); 0 }
         ["compare"] => compare::run(1),
         ["compare", share] => compare::run(share.parse().unwrap()),
         ["list", file] => compare::listed(&std::fs::read_to_string(file).unwrap().lines().filter_map(|l| l.strip_prefix("hex ")).map(unhex).collect::<Vec<_>>()),
         ["chunk", hex] => compare::listed(&[unhex(hex)]),
-        _ => { eprintln!("harness bench [NODES-SHAPE-CONSTANTS] | profile ours|rust NODES SHAPE CONSTANTS TIMES | compare [SHARE] | list FILE | chunk HEX"); 2 }
+        _ => { eprintln!("harness bench [NODES-SHAPE-CONSTANTS] | clearing | profile ours|rust NODES SHAPE CONSTANTS TIMES | compare [SHARE] | list FILE | chunk HEX"); 2 }
     }
 }
 

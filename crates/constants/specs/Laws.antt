@@ -235,7 +235,7 @@ late-append chunk b (val.Truth true) ks ws pool = tt
 late-append chunk b (val.Number x n) ks ws pool = tt
 late-append chunk b (val.Text s n) ks ws pool = late-text (leb (b .used + length (part chunk s n)) (length pool)) b (part chunk s n) ks ws pool
 
--- adding refuses with 11 or 12, which are above 9
+-- adding refuses with numbers above 9: 11 and 12, as `added` shows
 pub late-added : (chunk : List ℕ) (b : Table) (v : Val) (ks ws pool : List ℕ) (r : Refusal) → added chunk b v ks ws pool .answer ≡ Added-variants.Refused r → 10 ≤ numberOf r
 unfolding added
 late-added chunk b v ks ws pool r e = subst Late e (go (find (holds pool chunk v) (b .count) ks ws) (full (b .count) ks ws))

@@ -1,6 +1,6 @@
 -- Running code words as the VM paper says (document 01, "Running"). Whatever uses a register at or above the frame, a constant that isn't listed, a word past the end,
--- an open list that isn't there or is still open, a global's name that is no text, operands or an opcode that the lowering never emits, or goes to a word that isn't later,
--- is stuck; and the words carried out are counted. Assumes nothing.
+-- an open list that isn't there, is still open or begins at or below the register that takes it, a global's name that is no text, an opcode that the lowering never emits,
+-- a `LoadNil` of no register, a `Concat` of fewer than two, a `Return` with B = 0, or goes to a word that isn't later, is stuck; and the words carried out are counted. Assumes nothing.
 use Prim.Native.Nat.{ℕ, zero, suc, _+_, _-_}
 use mathlib.Core.List.{List, [], _∷_, _++_}
 use mathlib.Core.Bool.{Bool, true, false, not}

@@ -1,4 +1,5 @@
--- DEMAND 1 over the definitions. For every chunk of bytes and all lengths of the lent buffers: a refusal leaves zeros only; success leaves in each buffer as many numbers as the counts say and then zeros, each listed entry is a constant, no two are equal, and texts lie in the counted bytes.
+-- DEMAND 1 over the definitions. For every chunk of bytes and all lengths of the lent buffers: a refusal leaves zeros only and is due to the form, the scratch or the lowering; success leaves in each buffer as many numbers as the counts say and then zeros,
+-- each listed entry is a constant, no two are equal, texts lie in the counted bytes, the frame is at most 250, and the scratch holds the places of the chunk's nodes.
 -- The words' tail is zero because the labelled code is represented, the others' because each step keeps them; the scratch holds the places by definition.
 use Prim.Native.Nat.{ℕ, zero, suc, _-_, _≤_}
 use mathlib.Core.Path.{_≡_, refl, sym, ap, _∙_, subst}

@@ -1,3 +1,4 @@
+-- `controller::fuchsiarasp_lower` meets its contract, by those of `lower` and `tell`. Assumes nothing.
 use lib.ListN.{length}
 use Rattle.controller.specs.Laws.{tells}
 use borrow.Author.Needs.{needs}

@@ -1,3 +1,4 @@
+-- `controller::put` meets its contract: a place that isn't there is left out. Assumes nothing.
 use lib.Seq.{set-out}
 use borrow.Author.Needs.{needs}
 use Rattle.controller.proofs.put.Statement.{statement}

@@ -1,3 +1,4 @@
+-- `controller::tell` meets its contract: zeros, and over them the four counts; beside a refusal zeros alone. Assumes nothing.
 use lib.ListN.{length}
 use Rattle.controller.specs.Laws.{tell-done, tell-refused}
 use borrow.Author.Needs.{needs}

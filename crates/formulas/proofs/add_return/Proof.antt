@@ -1,3 +1,4 @@
+-- `formulas::add_return` meets its contract, by that of `emit_abc`. Assumes nothing.
 use Rattle.discharge.specs.Laws.{given-told}
 use Rattle.formulas.specs.Laws.{returning-done, returning-full}
 use borrow.Author.Needs.{needs}

@@ -1,3 +1,4 @@
+-- `formulas::formulas` meets its contract: before each turn, the formulas that are left, lowered from here, are all of them lowered from the start. Assumes nothing.
 use mathlib.Core.Path.{_≡_, refl, _∙_}
 use native.Mathlib.Omega.{arith}
 use lib.ListN.{length}

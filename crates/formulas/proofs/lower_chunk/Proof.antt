@@ -1,3 +1,4 @@
+-- `formulas::lower_chunk` meets its contract: registers for the locals, the formulas, the `Return`; each may refuse. Assumes nothing.
 use Rattle.calls.specs.Laws.{stepped-told}
 use Rattle.formulas.specs.Laws.{chunk-registers, chunk-formulas, chunk-ends}
 use borrow.Author.Needs.{needs}

@@ -1,3 +1,4 @@
+-- `listing::decimal` meets its contract, as a function that calls itself with one digit less; the digits left are what falls. Assumes nothing.
 use native.Mathlib.Omega.{arith}
 use Rattle.listing.specs.Laws.{decimal-none, decimal-small, decimal-large}
 use Prim.Native.Nat.{ℕ, _<_}
@@ -20,7 +21,6 @@ decimal-at t = and 1 decimal-kinds.ps (is 1 decimal-kinds.ps μ-decimal t) decim
 abbrev decimal-below : ℕ → In 1 decimal-kinds.ps
 decimal-below t = and 1 decimal-kinds.ps (falls 1 decimal-kinds.ps _<_ μ-decimal t) decimal.Pre
 
--- src/lib.rt:72:9
 decimal-returns : (t : ℕ) → decimal-lts.Need-returns (
   decimal-digit-reads.Asked,
   decimal-digit-reads.Learnt,
@@ -31,7 +31,6 @@ decimal-returns : (t : ℕ) → decimal-lts.Need-returns (
 ) (decimal-at t) decimal.Post
 decimal-returns t c = decimal-none _ _ _ _ (c .if1 .taken)
 
--- src/lib.rt:75:30
 decimal-decimal-digit-requires : (t : ℕ) → decimal-lts.Need-decimal-digit-requires (
   decimal-digit-reads.Asked,
   decimal-digit-reads.Learnt,
@@ -42,7 +41,6 @@ decimal-decimal-digit-requires : (t : ℕ) → decimal-lts.Need-decimal-digit-re
 ) (decimal-at t) decimal.Post
 decimal-decimal-digit-requires t c κs = tt
 
--- src/lib.rt:75:9
 decimal-put-requires : (t : ℕ) → decimal-lts.Need-put-requires (
   decimal-digit-reads.Asked,
   decimal-digit-reads.Learnt,
@@ -53,7 +51,6 @@ decimal-put-requires : (t : ℕ) → decimal-lts.Need-put-requires (
 ) (decimal-at t) decimal.Post
 decimal-put-requires t c κs = tt
 
--- src/lib.rt:75:9
 decimal-same-length : (t : ℕ) → decimal-lts.Need-same-length (
   decimal-digit-reads.Asked,
   decimal-digit-reads.Learnt,
@@ -64,7 +61,6 @@ decimal-same-length : (t : ℕ) → decimal-lts.Need-same-length (
 ) (decimal-at t) decimal.Post
 decimal-same-length t c = omega (arith, (c .before .before .put .kept))
 
--- src/lib.rt:75:9
 decimal-returns-2 : (t : ℕ) → decimal-lts.Need-returns-2 (
   decimal-digit-reads.Asked,
   decimal-digit-reads.Learnt,
@@ -79,7 +75,6 @@ decimal-returns-2 t c =
     let p6 = p5 .before in
     decimal-small _ _ _ _ (p6 .if1 .left) (p5 .if2 .taken) (p3 .decimal-digit .ensures) (c .before .before .put .ensures)
 
--- src/lib.rt:77:39
 decimal-sub-decimal : (t : ℕ) → decimal-lts.Need-sub-decimal (
   decimal-digit-reads.Asked,
   decimal-digit-reads.Learnt,
@@ -90,7 +85,6 @@ decimal-sub-decimal : (t : ℕ) → decimal-lts.Need-sub-decimal (
 ) (decimal-at t) decimal.Post
 decimal-sub-decimal t c = omega (arith, (c .before .before .if1 .left))
 
--- src/lib.rt:77:9
 decimal-decimal-requires : (t : ℕ) → decimal-lts.Need-decimal-requires (
   decimal-digit-reads.Asked,
   decimal-digit-reads.Learnt,
@@ -103,7 +97,6 @@ decimal-decimal-requires t c κs =
     let p4 = c .before .before .before .before in
     (omega (arith, (p4 .pre .0), (c .before .before .if1 .left)), tt)
 
--- src/lib.rt:78:17
 decimal-decimal-digit-requires-2 : (t : ℕ) → decimal-lts.Need-decimal-digit-requires-2 (
   decimal-digit-reads.Asked,
   decimal-digit-reads.Learnt,
@@ -114,7 +107,6 @@ decimal-decimal-digit-requires-2 : (t : ℕ) → decimal-lts.Need-decimal-digit-
 ) (decimal-at t) decimal.Post
 decimal-decimal-digit-requires-2 t c κs = tt
 
--- src/lib.rt:78:5
 decimal-put-requires-2 : (t : ℕ) → decimal-lts.Need-put-requires-2 (
   decimal-digit-reads.Asked,
   decimal-digit-reads.Learnt,
@@ -125,7 +117,6 @@ decimal-put-requires-2 : (t : ℕ) → decimal-lts.Need-put-requires-2 (
 ) (decimal-at t) decimal.Post
 decimal-put-requires-2 t c κs = tt
 
--- src/lib.rt:68:1
 decimal-same-length-2 : (t : ℕ) → decimal-lts.Need-same-length-2 (
   decimal-digit-reads.Asked,
   decimal-digit-reads.Learnt,
@@ -138,7 +129,6 @@ decimal-same-length-2 t c =
     let p7 = c .before .before .before .before .before .before .before in
     omega (arith, (c .before .before .put2 .kept), (p7 .decimal .kept))
 
--- src/lib.rt:68:1
 decimal-returns-3 : (t : ℕ) → decimal-lts.Need-returns-3 (
   decimal-digit-reads.Asked,
   decimal-digit-reads.Learnt,

@@ -1,3 +1,4 @@
+-- `listing::hex` meets its contract, as a function that calls itself with one digit less; the digits left are what falls. Assumes nothing.
 use native.Mathlib.Omega.{arith}
 use Rattle.listing.specs.Laws.{hex-none, hex-more}
 use Prim.Native.Nat.{ℕ, _<_}
@@ -20,7 +21,6 @@ hex-at t = and 1 hex-kinds.ps (is 1 hex-kinds.ps μ-hex t) hex.Pre
 abbrev hex-below : ℕ → In 1 hex-kinds.ps
 hex-below t = and 1 hex-kinds.ps (falls 1 hex-kinds.ps _<_ μ-hex t) hex.Pre
 
--- src/lib.rt:91:9
 hex-returns : (t : ℕ) → hex-lts.Need-returns (
   hex-below t,
   hex.Post,
@@ -31,7 +31,6 @@ hex-returns : (t : ℕ) → hex-lts.Need-returns (
 ) (hex-at t) hex.Post
 hex-returns t c = hex-none _ _ _ _ (c .if1 .taken)
 
--- src/lib.rt:93:35
 hex-sub-hex : (t : ℕ) → hex-lts.Need-sub-hex (
   hex-below t,
   hex.Post,
@@ -42,7 +41,6 @@ hex-sub-hex : (t : ℕ) → hex-lts.Need-sub-hex (
 ) (hex-at t) hex.Post
 hex-sub-hex t c = omega (arith, (c .before .if1 .left))
 
--- src/lib.rt:93:9
 hex-hex-requires : (t : ℕ) → hex-lts.Need-hex-requires (
   hex-below t,
   hex.Post,
@@ -55,7 +53,6 @@ hex-hex-requires t c κs =
     let p3 = c .before .before .before in
     (omega (arith, (p3 .pre .0), (c .before .if1 .left)), tt)
 
--- src/lib.rt:94:17
 hex-hex-digit-requires : (t : ℕ) → hex-lts.Need-hex-digit-requires (
   hex-below t,
   hex.Post,
@@ -66,7 +63,6 @@ hex-hex-digit-requires : (t : ℕ) → hex-lts.Need-hex-digit-requires (
 ) (hex-at t) hex.Post
 hex-hex-digit-requires t c κs = tt
 
--- src/lib.rt:94:5
 hex-put-requires : (t : ℕ) → hex-lts.Need-put-requires (
   hex-below t,
   hex.Post,
@@ -77,7 +73,6 @@ hex-put-requires : (t : ℕ) → hex-lts.Need-put-requires (
 ) (hex-at t) hex.Post
 hex-put-requires t c κs = tt
 
--- src/lib.rt:87:1
 hex-same-length : (t : ℕ) → hex-lts.Need-same-length (
   hex-below t,
   hex.Post,
@@ -90,7 +85,6 @@ hex-same-length t c =
     let p7 = c .before .before .before .before .before .before .before in
     omega (arith, (c .before .before .put .kept), (p7 .hex .kept))
 
--- src/lib.rt:87:1
 hex-returns-2 : (t : ℕ) → hex-lts.Need-returns-2 (
   hex-below t,
   hex.Post,

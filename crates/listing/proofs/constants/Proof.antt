@@ -1,3 +1,4 @@
+-- `listing::constants` meets its contract: before each turn, the lines from the entry at hand on, put here, are all lines put at the start; where kinds or values end, nothing is left to put. Assumes nothing.
 use Prim.Native.Nat.{_-_}
 use mathlib.Core.Path.{_≡_, refl, sym, _∙_}
 use native.Mathlib.Omega.{arith}

@@ -1,3 +1,4 @@
+-- `listing::hex_digit` meets its contract: a digit below ten, a letter from ten on. Assumes nothing.
 use Rattle.listing.specs.Laws.{glyph-digit, glyph-letter}
 use borrow.Author.Needs.{needs}
 use Rattle.listing.proofs.hex_digit.Statement.{statement}

@@ -1,3 +1,4 @@
+-- `listing::lines_of` meets its contract: the counts' line, the words' and the constants' one behind the other, or the refusal's. Assumes nothing.
 use native.Mathlib.Omega.{arith}
 use Rattle.listing.specs.Laws.{puts-then, refusal-told}
 use borrow.Author.Needs.{needs}

@@ -1,3 +1,4 @@
+-- `listing::put` meets its contract: a byte is stored where there is room and the pen is within the buffer; from the first that isn't on there is no room. Assumes nothing.
 use Rattle.listing.specs.Laws.{put-here, put-over, put-full}
 use borrow.Author.Needs.{needs}
 use Rattle.listing.proofs.put.Statement.{statement}

@@ -1,3 +1,4 @@
+-- `listing::text` meets its contract: before each turn, what is still to be put, put here, is the whole text put at the start. Assumes nothing.
 use Prim.Native.Nat.{_-_}
 use mathlib.Core.Path.{_≡_, refl, sym, _∙_}
 use native.Mathlib.Omega.{arith}

@@ -1,3 +1,4 @@
+-- `listing::word_line` meets its contract: a line put in parts, one behind the other, is the line put whole. Assumes nothing.
 use native.Mathlib.Omega.{arith}
 use Rattle.listing.specs.Laws.{puts-then, puts-one}
 use borrow.Author.Needs.{needs}

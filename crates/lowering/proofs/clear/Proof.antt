@@ -1,3 +1,4 @@
+-- `lowering::clear` meets its contract, by those of the five clearings. Assumes nothing.
 use lib.ListN.{length}
 use Rattle.lowering.specs.Laws.{five-same, still-zeros}
 use borrow.Author.Needs.{needs}

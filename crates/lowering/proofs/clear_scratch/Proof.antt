@@ -1,3 +1,4 @@
+-- `lowering::clear_scratch` meets its contract, by that of `clear_words`. Assumes nothing.
 use lib.ListN.{length}
 use Rattle.lowering.specs.Laws.{still-zeros}
 use borrow.Author.Needs.{needs}

@@ -1,3 +1,4 @@
+-- `lowering::lower` meets its contract: clearing, form check, the scratch's length, then the lowering give what the definition says (`entry`), and with it demands 1 and 3. Assumes nothing.
 use native.Mathlib.Omega.{arith}
 use lib.ListN.{length}
 use Rattle.model.specs.Steps.{bufs}

@@ -1,3 +1,4 @@
+-- `lowering::lower_cleared` meets its contract: the header and then `lower_chunk`, on buffers of zeros; beside a refusal they are cleared again. Assumes nothing.
 use Rattle.model.specs.Steps.{bufs}
 use mathlib.Core.Path.{_∙_}
 use native.Mathlib.Omega.{arith}

@@ -11,7 +11,7 @@ static uint8_t kinds[8], pool[64];
 static uint64_t values[8], counts[4];
 
 /* Lends all buffers, but of the code only so many words, and prints what comes back. */
-static void weave(const char *what, const uint8_t *chunk, size_t length, size_t words)
+static void lower(const char *what, const uint8_t *chunk, size_t length, size_t words)
 {
     uint32_t refusal = fuchsiarasp_lower(chunk, length, code, words, lines, LEN(lines), kinds, LEN(kinds), values, LEN(values), pool, LEN(pool), scratch, LEN(scratch), counts, LEN(counts));
     printf("%s\n", what);
@@ -40,8 +40,8 @@ int main(void)
     };
     static const uint8_t unknown[] = {0x00, 0x01, 0x0e, 0x00}; /* a formula of kind 14 */
 
-    weave("1 + x", sum, sizeof sum, LEN(code));
-    weave("1 + x with room for two words", sum, sizeof sum, 2);
-    weave("an unknown kind", unknown, sizeof unknown, LEN(code));
+    lower("1 + x", sum, sizeof sum, LEN(code));
+    lower("1 + x with room for two words", sum, sizeof sum, 2);
+    lower("an unknown kind", unknown, sizeof unknown, LEN(code));
     return 0;
 }
