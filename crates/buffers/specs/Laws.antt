@@ -1,9 +1,9 @@
 -- The laws of `pad`: its length and entries, and a list and then zeros after a store, several stores, or a number taken back.
 -- Each holds by the definition of `pad`, along the room and the list. Assumes nothing.
-use Prim.Native.Nat.{ℕ, zero, suc, _-_, _<_, _≤_}
+use Prim.Native.Nat.{ℕ, zero, suc, _-_, _≤_}
 use mathlib.Core.List.{List, [], _∷_, _++_, append-nil, append-assoc}
 use mathlib.Core.Path.{_≡_, refl, ap}
-use lib.ListN.{length, set, getD, length-append}
+use lib.ListN.{length, set, length-append}
 use lib.Seq.{sets}
 use native.Mathlib.Nat.{not-suc-le-zero, le-of-suc-le-suc, sub-zero, suc-sub-suc}
 use native.Mathlib.Omega.{arith}
@@ -46,19 +46,3 @@ unfolding pad
 pop-pad zero ws w = refl
 pop-pad (suc n) [] w = refl
 pop-pad (suc n) (x ∷ ws) w = ap (λ (l : List ℕ). x ∷ l) (pop-pad n ws w)
-
-pub getD-pad : (n : ℕ) (ws : List ℕ) (i : ℕ) → i < n → getD (pad n ws) i 0 ≡ getD ws i 0
-unfolding pad
-getD-pad zero ws i h = absurd (not-suc-le-zero h)
-getD-pad (suc n) [] zero h = refl
-getD-pad (suc n) [] (suc i) h = getD-pad n [] i (le-of-suc-le-suc h)
-getD-pad (suc n) (w ∷ ws) zero h = refl
-getD-pad (suc n) (w ∷ ws) (suc i) h = getD-pad n ws i (le-of-suc-le-suc h)
-
--- a number of the list replaced
-pub set-pad-in : (n : ℕ) (ws : List ℕ) (i w : ℕ) → i < length ws → set (pad n ws) i w ≡ pad n (set ws i w)
-unfolding pad
-set-pad-in zero ws i w h = refl
-set-pad-in (suc n) [] i w h = absurd (not-suc-le-zero h)
-set-pad-in (suc n) (x ∷ ws) zero w h = refl
-set-pad-in (suc n) (x ∷ ws) (suc i) w h = ap (λ (l : List ℕ). x ∷ l) (set-pad-in n ws i w (le-of-suc-le-suc h))

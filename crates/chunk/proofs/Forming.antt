@@ -1,12 +1,10 @@
 -- The ways through the form check: what is known on each gives the answer and the scratch of `checked`. By cases on what was read.
-use Prim.Native.Nat.{ℕ, _+_, _≤_, _<_}
-use mathlib.Core.Path.{_≡_, refl, sym, ap, _∙_}
+use Prim.Native.Nat.{ℕ, _≤_, _<_}
+use mathlib.Core.Path.{_≡_, sym, ap, _∙_}
 use mathlib.Core.List.{List, []}
-use mathlib.Core.Bool.{Bool, true, false}
 use native.Mathlib.Omega.{arith}
 use native.Mathlib.Nat.{zero-add}
 use lib.ListN.{length}
-use lib.Dec.{eqb}
 use borrow.Author.Tests.{le-leb, lt-leb, eq-eqb, ne-eqb}
 use Rattle.buffers.specs.Pad.{zeros, pad}
 use Rattle.buffers.specs.Laws.{pad-none, sets-pad}
@@ -14,7 +12,7 @@ use Rattle.refusals.specs.declared.Refusal.{Refusal}
 use Rattle.refusals.specs.declared.Refusal.the-variants as refusal
 use Rattle.chunk.specs.Ast.{Exprs, spansOf, placesOf}
 use Rattle.chunk.specs.Headers.{headerAt}
-use Rattle.chunk.specs.Form.{Parsed, parsed, refused, Formed, formed, refused as unformed, exprAt, exprsAt, maxLength, maxNesting, withExprs, ended, formOf}
+use Rattle.chunk.specs.Form.{Parsed, parsed, refused, Formed, exprAt, exprsAt, maxLength, maxNesting, withExprs, ended, formOf}
 use Rattle.chunk.specs.Walks.{passed, Walked, checked, out}
 use Rattle.chunk.specs.declared.header.Header.{Header}
 use Rattle.chunk.specs.declared.header.HeaderRead.the-variants as header

@@ -20,6 +20,14 @@ agrees-true true b e = sym e
 agrees-true false true e = absurd (true≢false (sym e))
 agrees-true false false e = refl
 
+pub agrees-with-true : (a : Bool) → agrees a true ≡ a
+agrees-with-true true = refl
+agrees-with-true false = refl
+
+pub agrees-with-false : (a : Bool) → agrees a false ≡ not a
+agrees-with-false true = refl
+agrees-with-false false = refl
+
 not-agrees : (a c : Bool) → agrees (not a) c ≡ agrees a (not c)
 not-agrees true true = refl
 not-agrees true false = refl

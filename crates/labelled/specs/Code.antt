@@ -1,7 +1,7 @@
 -- Labelled code: a proof device between the words and the reading. A pending jump has a label; a test with its jump, and a call with the words that make its open list,
 -- are one instruction each, so that nobody can jump in between. One edit of all pending jumps stands for every patching of lists. Assumes nothing.
-use Prim.Native.Nat.{ℕ, zero, suc, _+_, _≤_}
-use mathlib.Core.Bool.{Bool, true, false, not}
+use Prim.Native.Nat.{ℕ, _+_}
+use mathlib.Core.Bool.{Bool, true, false}
 use mathlib.Core.List.{List, [], _∷_}
 use mathlib.Core.Option.{Option, some, none}
 use mathlib.Core.Path.{_≡_, refl}

@@ -1,6 +1,6 @@
 -- Every expression of a chunk is good, by induction on the trees; all formulas after each other.
 use Prim.Native.Nat.{ℕ, suc, _+_, _≤_, _<_}
-use mathlib.Core.Bool.{Bool, true, false, not}
+use mathlib.Core.Bool.{Bool, true, false}
 use mathlib.Core.Path.{_≡_, refl, ap, sym, _∙_}
 use mathlib.Core.List.{List, [], _∷_}
 use mathlib.Core.Option.{Option, some, none}
@@ -35,7 +35,7 @@ use Rattle.model.specs.Reading.{local-named, local-or-global, read-leaf, read-o
 use Rattle.labelled.specs.Firm.{Agree, agree-trans, CC, C, Z, flush-keeps}
 use Rattle.labelled.specs.Loads.{finish4, Done}
 use Rattle.labelled.specs.Settling.{next-res, next-free, next-nxt}
-use Rattle.labelled.specs.Branching.{goIf-nxt, goIf-free, notA}
+use Rattle.labelled.specs.Branching.{goIf-nxt, goIf-free, notA, agrees-with-true, agrees-with-false}
 use Rattle.labelled.specs.Owning.{freed-own, any-low}
 use Rattle.labelled.specs.Good.{finishL, Good, Good4, labs, dv-good, lift-good, mkGood, flush-pass, flush-is, good-f, good-eq, plain-good}
 use Rattle.labelled.specs.Operands.{next-op, any-op, rk-op, By, two, idx-good}
@@ -162,14 +162,6 @@ module _ (Γ : Setting) where
     one-good (one.Field t) A s p l na g = index-good A (λ h. taken (text (bytesOf chunk t) ∷ []) h) s p (textC (bytesOf chunk t) (anyreg p .st)) l na g (text-good (bytesOf chunk t) (anyreg p .st))
     one-good one.Paren A s p l na g = lift-good Γ (By A) (s .free) s p g
 
-    answer-true : (t : Bool) → agrees t true ≡ t
-    answer-true true = refl
-    answer-true false = refl
-
-    answer-false : (t : Bool) → agrees t false ≡ not t
-    answer-false true = refl
-    answer-false false = refl
-
     form-reads : (t : Two) (A B : Hist → Taken Value) (h : Hist) → readForm (formOf t) A B h ≡ read-two (Γ .world) chunk names locals (Γ .varargs) t A B h
     unfolding read-two read-binary
     form-reads (two-of.Binary bin.And) A B h = go (is-true (A h .gives))
@@ -189,12 +181,12 @@ module _ (Γ : Setting) where
     form-reads (two-of.Binary bin.Mod) A B h = refl
     form-reads (two-of.Binary bin.Pow) A B h = refl
     form-reads (two-of.Binary bin.Concat) A B h = refl
-    form-reads (two-of.Binary bin.Eq) A B h = rw answer-true refl
-    form-reads (two-of.Binary bin.Ne) A B h = rw answer-false refl
-    form-reads (two-of.Binary bin.Lt) A B h = rw answer-true refl
-    form-reads (two-of.Binary bin.Le) A B h = rw answer-true refl
-    form-reads (two-of.Binary bin.Gt) A B h = rw answer-true refl
-    form-reads (two-of.Binary bin.Ge) A B h = rw answer-true refl
+    form-reads (two-of.Binary bin.Eq) A B h = rw agrees-with-true refl
+    form-reads (two-of.Binary bin.Ne) A B h = rw agrees-with-false refl
+    form-reads (two-of.Binary bin.Lt) A B h = rw agrees-with-true refl
+    form-reads (two-of.Binary bin.Le) A B h = rw agrees-with-true refl
+    form-reads (two-of.Binary bin.Gt) A B h = rw agrees-with-true refl
+    form-reads (two-of.Binary bin.Ge) A B h = rw agrees-with-true refl
     form-reads two-of.Index A B h = refl
 
     -- arguments behind the function, or behind the method and its object

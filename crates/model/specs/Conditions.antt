@@ -10,9 +10,8 @@ use Rattle.opcodes.specs.declared.OpCode.the-variants as op
 use Rattle.model.specs.declared.ExprKind.{ExprKind}
 use Rattle.model.specs.declared.ExprKind.the-variants.{Nil, True, False, K, KNum, Local, Global, Indexed, Jmp, Relocable, NonReloc, Call, VarArg}
 use Rattle.model.specs.declared.ExprContext.{ExprContext}
-use Rattle.model.specs.declared.State.{State}
 use Rattle.model.specs.Descriptor.{with-kind, with-jumps, isKind}
-use Rattle.model.specs.Steps.{Buffers, done, Step, _>>=_, _>>_, return, code-now, change-words}
+use Rattle.model.specs.Steps.{done, Step, _>>=_, _>>_, return, code-now, change-words}
 use Rattle.model.specs.Jumps.{word, isOp, jump-list, get-jump-control, remove-values}
 use Rattle.model.specs.Emission.{with-pc, emit-abc, emit-jump, concat, patch-to-here}
 use Rattle.model.specs.Discharge.{change-word, discharge-vars, free-expr, discharge2anyreg}

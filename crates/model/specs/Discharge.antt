@@ -11,7 +11,6 @@ use Rattle.constants.specs.declared.Val.the-variants as val
 use Rattle.model.specs.declared.ExprKind.{ExprKind}
 use Rattle.model.specs.declared.ExprKind.the-variants.{Nil, True, False, K, KNum, Local, Global, Indexed, Jmp, Relocable, NonReloc, Call, VarArg}
 use Rattle.model.specs.declared.ExprContext.{ExprContext}
-use Rattle.model.specs.declared.State.{State}
 use Rattle.model.specs.Descriptor.{with-kind, with-jumps, has-jumps, isKind}
 use Rattle.model.specs.Steps.{Step, _>>=_, _>>_, return, get, code-now, change-words, skip, when}
 use Rattle.model.specs.Jumps.{word, jump-list, need-value, patch-list-aux}

@@ -16,7 +16,7 @@ use Rattle.constants.specs.declared.Val.{Val}
 use Rattle.constants.specs.declared.Added.{Added}
 use Rattle.constants.specs.declared.Added.the-variants as added
 use Rattle.model.specs.declared.State.{State}
-use Rattle.model.specs.Steps.{Buffers, Result, done, refused, Step, andThen, _>>=_, _>>_, return, refuse, get, change, code-now, change-words, skip}
+use Rattle.model.specs.Steps.{Buffers, Result, done, refused, Step, _>>=_, _>>_, return, refuse, get, change, code-now, change-words, skip}
 use Rattle.model.specs.Jumps.{word, isOp, concat-jumps, linked, remove-values, patch-list-aux}
 
 -- ---- the state with other fields

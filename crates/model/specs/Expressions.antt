@@ -31,7 +31,6 @@ use Rattle.chunk.specs.Form.{namesOf}
 use Rattle.chunk.specs.declared.header.Header.{Header}
 use Rattle.model.specs.declared.ExprKind.the-variants.{Nil, True, False, K, Local, Global, Indexed, NonReloc, Call, VarArg}
 use Rattle.model.specs.declared.ExprContext.{ExprContext}
-use Rattle.model.specs.declared.State.{State}
 use Rattle.model.specs.Descriptor.{newOf, descriptorOf, with-kind, isKind}
 use Rattle.model.specs.Values.{later, named}
 use Rattle.model.specs.Steps.{Step, _>>=_, _>>_, return, refuse, get, change}

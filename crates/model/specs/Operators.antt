@@ -24,9 +24,8 @@ use Rattle.ast.specs.declared.UnOp.{UnOp}
 use Rattle.ast.specs.declared.UnOp.the-variants as un
 use Rattle.model.specs.declared.ExprKind.the-variants.{KNum, Jmp, Relocable}
 use Rattle.model.specs.declared.ExprContext.{ExprContext}
-use Rattle.model.specs.declared.State.{State}
 use Rattle.model.specs.Descriptor.{newOf, with-kind, with-jumps, isKind, is-numeral}
-use Rattle.model.specs.Steps.{Buffers, done, Step, _>>=_, _>>_, return, code-now}
+use Rattle.model.specs.Steps.{done, Step, _>>=_, _>>_, return, code-now}
 use Rattle.model.specs.Jumps.{word, isOp}
 use Rattle.model.specs.Emission.{emit-abc, emit-jump, concat}
 use Rattle.model.specs.Discharge.{change-word, discharge-vars, free-expr, exp2nextreg, exp2anyreg, exp2val, exp2rk, rk}

@@ -18,7 +18,7 @@ use Rattle.ast.specs.declared.Two.the-variants as two
 use Rattle.ast.specs.declared.Many.{Many}
 use Rattle.ast.specs.declared.Many.the-variants as many
 use Rattle.chunk.specs.Ast.{Expr, leaf as leaf-node, one as one-node, two as two-node, many as many-node, Exprs, none as no-more, more, Chunk}
-use Rattle.model.specs.Values.{later, named, Value, nil, truth, number, text, is-true, first, Kind, global-read, index-read, call, equal, less, less-or-equal, length-of, concatenation, Outward, World, Taken, taken, ask, ask-many, ask-truth, compute, negation}
+use Rattle.model.specs.Values.{later, named, Value, nil, truth, number, text, is-true, first, Kind, global-read, index-read, equal, less, less-or-equal, length-of, concatenation, Outward, World, Taken, taken, ask, ask-many, ask-truth, compute, negation}
 
 -- a reading, from the steps so far on
 abbrev pub Read : Type 0 → Type 0

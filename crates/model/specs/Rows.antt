@@ -1,8 +1,7 @@
 -- Worked examples, computed with the buffers that `weavelist` lends: P1 to P12 of document 01, and further chunks. Assumes nothing.
-use Prim.Native.Nat.{ℕ, zero, suc, _+_, _%_}
+use Prim.Native.Nat.{ℕ, zero, suc}
 use mathlib.Core.Path.{_≡_, refl}
 use mathlib.Core.List.{List, [], _∷_, map}
-use mathlib.Core.Bool.{true, false, not}
 use lib.ListN.{take}
 use Rattle.buffers.specs.Pad.{pad}
 use Rattle.instructions.specs.Field.{getAt, setAt}
@@ -28,7 +27,7 @@ use Rattle.model.specs.Operators.{free-in-turn, free-both, emit-arith, c
 use Rattle.model.specs.Reading.{local-named, read-leaf, read-one, read-binary, read-two, read-many, read-formulas, read-expr, read-args}
 use Rattle.model.specs.Running.{regs, puts, joined, carry, run-from}
 use Rattle.model.specs.Steps.{andThen, Buffers}
-use Rattle.model.specs.Values.{compute, negation, nil, number, text, other}
+use Rattle.model.specs.Values.{compute, negation, number, text}
 use lib.Ieee.{span, climb, size, odd, units, round, neg, sum, add, sub, mul, div, lt, eq, le, ne, ofInt, ofFields, ofBits, nanBits, toBits, isNan}
 use Rattle.model.specs.Lowering.{formulas, lower-chunk, lower-formed, lowered, Sizes, Out}
 use Rattle.refusals.specs.Number.{numberOf}

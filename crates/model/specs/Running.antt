@@ -14,7 +14,7 @@ use Rattle.opcodes.specs.declared.OpCode.{OpCode}
 use Rattle.opcodes.specs.declared.OpCode.the-variants as op
 use Rattle.folding.specs.declared.Arith.the-variants as arith
 use Rattle.constants.specs.Entry.{Constant, entryOf}
-use Rattle.model.specs.Values.{Value, nil, truth, number, text, other, valueOf, is-true, first, fit, Kind, global-read, index-read, equal, less, less-or-equal, length-of, concatenation, Outward, World, Taken, taken, ask, ask-many, ask-truth, compute, negation}
+use Rattle.model.specs.Values.{Value, nil, truth, number, text, other, valueOf, is-true, fit, Kind, global-read, index-read, equal, less, less-or-equal, length-of, concatenation, Outward, World, Taken, taken, ask, ask-many, ask-truth, compute, negation}
 
 -- what is run: words, the constants with their texts, and the frame
 pub record Program : Type 0 where

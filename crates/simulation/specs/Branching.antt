@@ -1,6 +1,6 @@
 -- The jump that a value takes: `jumponcond`, `invertjump` and what comes of constants, under a label J that is new, stand for `goJump`. A popped `Not` leaves its test; a loaded value is tested in its register, which is free again.
 use Prim.Native.Nat.{ℕ, suc, _+_, _≤_, _<_}
-use mathlib.Core.Bool.{Bool, true, false, not, _&&_}
+use mathlib.Core.Bool.{Bool, true, false, not}
 use mathlib.Core.Path.{_≡_, refl, sym, ap, _∙_, subst}
 use mathlib.Core.List.{List, _∷_}
 use mathlib.Core.Option.{none}
@@ -33,6 +33,7 @@ use Rattle.labelled.specs.Discharge.{K4, kc, kr, kx, kj, d2r, isCmp}
 use Rattle.labelled.specs.Conditions.{onLoad, onX, goJump}
 use Rattle.labelled.specs.Owning.{Own4, freed-own}
 use Rattle.labelled.specs.Fresh.{Under, push-u}
+use Rattle.labelled.specs.Branching.{agrees-with-true, agrees-with-false}
 use Rattle.threads.specs.Represents.{setH}
 use Rattle.threads.specs.Places.{edit-through}
 use Rattle.threads.specs.Emitting.{no-label}
@@ -47,6 +48,7 @@ use Rattle.simulation.specs.Discharging.{no-here}
 use Rattle.simulation.specs.Loading.{kindOf, isReg, then-done, jump-list-is}
 use Rattle.simulation.specs.ToRegister.{d2r-label}
 use Rattle.simulation.specs.InRegister.{regK, codeK, reg-loaded, loaded-code, code-under, in-register}
+use Rattle.laws.specs.Truth.{no-and}
 
 -- ---- the opcode `Not`
 
@@ -89,9 +91,6 @@ not-x vfst = refl
 
 not-word : (t : List Constant) (F w : ℕ) (x : Ex) → CodesX t F w 0 x → isOp op.Not w ≡ isNotX x
 not-word t F w x h = rw (codes-op t F w 0 x h) (not-x x)
-
-and-false : (a b : Bool) → a ≡ false → (a && b) ≡ false
-and-false a b e = rw e refl
 
 two-others : (a x : ℕ) (H : ℕ → ℕ) (i : ℕ) → (i ≡ a → ⊥) → (i ≡ 0 → ⊥) → setH a x (setH 0 0 H) i ≡ H i
 two-others a x H i p q = rw (same-ne i a p, same-ne i 0 q) refl
@@ -190,7 +189,7 @@ module _ (Γ : Env) (s : State) (m : Buffers) (H : ℕ → ℕ) (e : ExprContext
   cond-is c = chosen (is-not (m .code) e) _ _ s m
 
   no-not : (k : K4) → e .kind ≡ kindOf k → eqb (tagOf (kindOf k)) 9 ≡ false → is-not (m .code) e ≡ false
-  no-not k q z = and-false (isKind kind.Relocable e) (isOp op.Not (word (m .code) (e .info))) (ap (λ x. eqb (tagOf x) 9) q ∙ z)
+  no-not k q z = no-and (isKind kind.Relocable e) (isOp op.Not (word (m .code) (e .info))) (ap (λ x. eqb (tagOf x) 9) q ∙ z)
 
   -- a value in a register, which it may be loaded into first
   on-value : (k : K4) (c : Bool) → isCmp k ≡ false → is-not (m .code) e ≡ false → Own4 (Γ .active) f k (σ .free) → Is4 Γ s m H e σ k → Ends (jumponcond e c s m) (λ list s′ m′. Done (setFree f (push (br (tset (regK k f) c) (lbl ℓ)) (codeK k tl f σ))) list s′ m′)
@@ -304,17 +303,9 @@ module _ (Γ : Env) (s : State) (m : Buffers) (H : ℕ → ℕ) (e : ExprContext
       inverse : (invertjump e s m ≡ done tt s (with-code (inverted (m .code) (e .info)) m)) × Sim Γ s (with-code (inverted (m .code) (e .info)) m) H (br (cmp a (not d) x y) (lbl j) ∷ σ .code) (σ .free) (σ .tab)
       inverse = sim-invert e (h .1 .0 ∙ omega arith) now
 
-      agree-true : (d : Bool) → agrees d true ≡ d
-      agree-true true = refl
-      agree-true false = refl
-
-      agree-false : (d : Bool) → agrees d false ≡ not d
-      agree-false true = refl
-      agree-false false = refl
-
       go : (c : Bool) → Ends (jump-if e c kind.Jmp s m) (λ list s′ m′. Done (push (br (cmp a (agrees d c) x y) (lbl ℓ)) σ) list s′ m′)
-      go true = rw (agree-true d) (gives _ s m refl (standing a d true x y j m (h .1 .1 .1 .1 .0) (h .1 .1 .1 .1 .1 .0) (h .1 .1 .0) inside now))
-      go false = rw (agree-false d, inverse .0, then-done {A = Unit {0}} tt s (with-code (inverted (m .code) (e .info)) m) (λ _. return (jump-list (e .info)))) (gives _ s _ refl (standing a (not d) false x y j _ (h .1 .1 .1 .1 .0) (h .1 .1 .1 .1 .1 .0) (h .1 .1 .0) inside (inverse .1)))
+      go true = rw (agrees-with-true d) (gives _ s m refl (standing a d true x y j m (h .1 .1 .1 .1 .0) (h .1 .1 .1 .1 .1 .0) (h .1 .1 .0) inside now))
+      go false = rw (agrees-with-false d, inverse .0, then-done {A = Unit {0}} tt s (with-code (inverted (m .code) (e .info)) m) (λ _. return (jump-list (e .info)))) (gives _ s _ refl (standing a (not d) false x y j _ (h .1 .1 .1 .1 .0) (h .1 .1 .1 .1 .1 .0) (h .1 .1 .0) inside (inverse .1)))
 
   -- no jump
   stays : Sim Γ s m H (σ .code) (σ .free) (σ .tab) → Ends (return 0 s m) (λ list s′ m′. Done σ list s′ m′)

@@ -30,6 +30,7 @@ use Rattle.labelled.specs.Fresh.{On, flush-u, next-on, dv-new}
 use Rattle.labelled.specs.Owning.{freed-own}
 use Rattle.labelled.specs.Discharge.{kc, kr, kx, kj, K, kd, kl, kg, ki, kcl, kva, Pair, fresh, dv, nextreg, freed}
 use Rattle.labelled.specs.Expressions.{closedCall, lastArg}
+use Rattle.labelled.specs.Settling.{next-free}
 use Rattle.threads.specs.Words.{word-same, word-other}
 use Rattle.threads.specs.Represents.{setH}
 use Rattle.threads.specs.Holding.{Ends, gives, ends-then, with-code}
@@ -41,7 +42,7 @@ use Rattle.simulation.specs.Discharging.{sound-dv}
 use Rattle.simulation.specs.Loading.{then-done}
 use Rattle.simulation.specs.ToRegister.{sim-next}
 use Rattle.simulation.specs.Late.{fresh-held}
-use Rattle.simulation.specs.Chaining.{InF, next-free}
+use Rattle.simulation.specs.Chaining.{InF}
 
 above-is : (r : ℕ) → r < noReg → above r ≡ suc r
 unfolding above

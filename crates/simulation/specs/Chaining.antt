@@ -32,6 +32,7 @@ use Rattle.labelled.specs.Fresh.{On, Under, New4, flush-u, dv-new, next-on}
 use Rattle.labelled.specs.Discharge.{K4, kc, kr, kx, kj, kd, Pair, Par4, fresh, lift4, freed, dvS, dv, d2r, settle, e2r, nextreg, viaReg, anyK, anyreg}
 use Rattle.labelled.specs.Owning.{freed-own}
 use Rattle.labelled.specs.Operators.{catX, catK, joinC}
+use Rattle.labelled.specs.Settling.{next-free}
 use Rattle.threads.specs.Represents.{setH}
 use Rattle.threads.specs.Holding.{Ends, gives, ends-then, ends-map, with-code}
 use Rattle.threads.specs.Coded.{opX, codes-op}
@@ -48,6 +49,7 @@ use Rattle.simulation.specs.Freeing.{temporary}
 use Rattle.simulation.specs.Parts.{known}
 use Rattle.simulation.specs.Late.{Alike, sims-alike, fresh-desc, fresh-held, sound-fresh}
 use Rattle.simulation.specs.Unary.{free-known, free-register}
+use Rattle.laws.specs.Truth.{no-and}
 
 -- ---- the last register, once more
 
@@ -123,13 +125,6 @@ cat-x (notx r) = refl
 cat-x (cat b k) = refl
 cat-x vfst = refl
 
-pub next-free : (q : Par4) → nextreg q .free ≡ suc (freed (q .de .k4) (q .st .free))
-unfolding nextreg
-next-free q = refl
-
-and-false : (a b : Bool) → a ≡ false → (a && b) ≡ false
-and-false a b e = rw e refl
-
 con-kind : (v : Constant) → eqb (tagOf (kindOf (kc v))) 9 ≡ false
 con-kind knil = refl
 con-kind (ktruth true) = refl
@@ -180,7 +175,7 @@ module _ (Γ : Env) (e₁ : ExprContext) (f : ℕ) (one : 1 ≤ Γ .n) (la : Γ 
     Goal k = Sound Γ (suc f) (lift4 (Q k)) → SimD Γ s m e₃ (lift4 (Q k)) → Ends (joins e₃ s m) (λ e′ s′ m′. SimD Γ s′ m′ e′ (catK false k f (Q k)))
 
     no-word : (k : K4) → eqb (tagOf (kindOf k)) 9 ≡ false → SimD Γ s m e₃ (lift4 (Q k)) → (isKind kind.Relocable e₃ && isOp op.Concat (word (m .code) (e₃ .info))) ≡ false
-    no-word k z d = and-false (isKind kind.Relocable e₃) (isOp op.Concat (word (m .code) (e₃ .info))) (ap (λ x. eqb (tagOf x) 9) (kind-is Γ s m (d .heads) e₃ σ k (d .is)) ∙ z)
+    no-word k z d = no-and (isKind kind.Relocable e₃) (isOp op.Concat (word (m .code) (e₃ .info))) (ap (λ x. eqb (tagOf x) 9) (kind-is Γ s m (d .heads) e₃ σ k (d .is)) ∙ z)
 
     word-test : (x : Ex) → SimD Γ s m e₃ (lift4 (Q (kx x))) → (isKind kind.Relocable e₃ && isOp op.Concat (word (m .code) (e₃ .info))) ≡ isCat x
     word-test x d = rw (ap (λ x. eqb (tagOf x) 9) (d .is .0), d .is .1 .0, codes-op (σ .tab) (s .frame) (word (m .code) (size (σ .code))) 0 x (d .is .1 .1 .1 .holds .rep .enc .0 .1)) (cat-x x)
@@ -223,7 +218,7 @@ sim-join {Γ = Γ} {s = s} {m = m} e₁ f p la i h d = ends-then (sim-val p h d)
 
     go : (e₃ : ExprContext) (s₃ : State) (m₃ : Buffers) → SimV Γ s₃ m₃ e₃ q → Ends (joins Γ e₁ f (h .some) la i e₃ s₃ m₃) (λ e′ s′ m′. SimD Γ s′ m′ e′ (catK (hit false (q .de .tl) (q .de .fl) (q .st .code)) (q .de .k4) f q))
     go e₃ s₃ m₃ (plain z x) = rw z (joined-at Γ e₁ f (h .some) la i s₃ m₃ e₃ (q .st) (q .de .tl) (q .de .fl) (q .de .k4) (sound-dv p h) x)
-    go e₃ s₃ m₃ (landed z x) = rw (z, and-false (isKind kind.Relocable e₃) (isOp op.Concat (word (m₃ .code) (e₃ .info))) (ap (λ y. eqb (tagOf y) 9) (x .kind)))
+    go e₃ s₃ m₃ (landed z x) = rw (z, no-and (isKind kind.Relocable e₃) (isOp op.Concat (word (m₃ .code) (e₃ .info))) (ap (λ y. eqb (tagOf y) 9) (x .kind)))
         (ends-then (next-again e₃ (nextreg q) (suc f) (h .some) on (omega arith) taken there) (λ e₄ s₄ m₄ y. two-regs Γ e₁ f (h .some) la s₄ m₄ e₄ (nextreg q) i on taken y))
       where
         on : On (Γ .n) (nextreg q)

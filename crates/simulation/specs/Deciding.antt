@@ -19,8 +19,8 @@ use Rattle.labelled.specs.Conditions.{goJump, goIf}
 use Rattle.labelled.specs.Marks.{nilLast}
 use Rattle.threads.specs.Represents.{setH}
 use Rattle.threads.specs.Words.{linked-none}
-use Rattle.threads.specs.Going.{to-here}
 use Rattle.threads.specs.Holding.{Ends, gives, ends-then, ends-map, with-code, concat-is, concat-zero}
+use Rattle.threads.specs.Stepping.{to-here}
 use Rattle.simulation.specs.Sim.{Env, Sim, SimD, Sound}
 use Rattle.simulation.specs.Steps.{sim-concat, sim-here}
 use Rattle.simulation.specs.Discharging.{sim-dv, sound-dv}

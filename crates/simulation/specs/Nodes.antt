@@ -23,7 +23,6 @@ use Rattle.chunk.specs.Ast.{Span, Expr, leaf as leaf-node, one as one-node, two
 use Rattle.chunk.specs.Headers.{namesAt}
 use Rattle.chunk.specs.Form.{Parsed, parsed, refused, withParsed, exprsAt, rest, withNode, exprAt, namesOf, maxNesting}
 use Rattle.chunk.specs.declared.header.Header.{Header}
-use Rattle.model.specs.declared.ExprKind.the-variants as kind
 use Rattle.model.specs.declared.ExprContext.{ExprContext}
 use Rattle.model.specs.declared.State.{State}
 use Rattle.model.specs.Steps.{Buffers, Result, Step, andThen, _>>=_, _>>_, get}
@@ -39,6 +38,7 @@ use Rattle.labelled.specs.Owning.{Own4, freed-own}
 use Rattle.labelled.specs.Discharge.{kc, kd, Pair, Par4, RgS, dv, nextreg, anyreg}
 use Rattle.constants.specs.Entry.{text}
 use Rattle.labelled.specs.Expressions.{textC, compOne, callee as calleeL, before, comp, compArgs, codeSelf}
+use Rattle.labelled.specs.Settling.{next-free}
 use Rattle.threads.specs.Holding.{Ends, ends-then, ends-map}
 use Rattle.threads.specs.Stepping.{hold-same}
 use Rattle.simulation.specs.Sim.{Env, Sims, SimD, Sound}
@@ -51,7 +51,7 @@ use Rattle.simulation.specs.Freeing.{Takes, any-takes, takes-more}
 use Rattle.simulation.specs.Parts.{at-place, Lowers}
 use Rattle.simulation.specs.Late.{sound-fresh}
 use Rattle.simulation.specs.Unary.{sim-neg, sim-len}
-use Rattle.simulation.specs.Chaining.{InF, next-free}
+use Rattle.simulation.specs.Chaining.{InF}
 use Rattle.simulation.specs.Indexing.{sim-indexed}
 use Rattle.simulation.specs.Calling.{sim-closed, sim-last}
 use Rattle.simulation.specs.Texts.{Bytes, ShortNode, ShortLeaf, ShortHead, ShortOne, ShortMany, short-node}

@@ -34,6 +34,7 @@ use Rattle.labelled.specs.Conditions.{goIf}
 use Rattle.labelled.specs.Discharge.{Pair, RkS, RgS, freed, dv, nextreg, anyreg}
 use Rattle.labelled.specs.Operators.{numeral, leftOf, logical, joining, arithmetic, comparing, indexing, formOf, compTwo}
 use Rattle.labelled.specs.Expressions.{comp}
+use Rattle.labelled.specs.Settling.{next-free}
 use Rattle.threads.specs.Encoding.{comparison, Compares}
 use Rattle.threads.specs.Holding.{Ends, ends-then, ends-map}
 use Rattle.threads.specs.Coded.{Binary}
@@ -48,7 +49,7 @@ use Rattle.simulation.specs.Sides.{SimL, Left, sim-operand}
 use Rattle.simulation.specs.Arithmetic.{LeftTakes, numeral-own, sim-arith}
 use Rattle.simulation.specs.Comparing.{sim-comp}
 use Rattle.simulation.specs.Joining.{sim-and, sim-or}
-use Rattle.simulation.specs.Chaining.{next-free, sim-join}
+use Rattle.simulation.specs.Chaining.{sim-join}
 use Rattle.simulation.specs.Indexing.{sim-indexed}
 use Rattle.simulation.specs.Trees.{sound-comp, comp-grows}
 

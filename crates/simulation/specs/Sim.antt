@@ -1,6 +1,6 @@
 -- The simulation relation: when a state of the model, its buffers and a descriptor stand for a state of labelled code and its descriptor. A word that labelled code holds back in a descriptor
 -- (one without its register, a comparison, a call, a vararg) stands on top of the model's code already. Assumes nothing.
-use Prim.Native.Nat.{ℕ, suc, _+_, _-_, _≤_, _<_}
+use Prim.Native.Nat.{ℕ, suc, _+_, _≤_, _<_}
 use mathlib.Core.Bool.{true, false, _&&_}
 use mathlib.Core.Path.{_≡_}
 use mathlib.Core.List.{List, [], _∷_}

@@ -1,6 +1,6 @@
 -- The steps that touch words and lists alone, from a state that stands for labelled code: each is refused, or done and stands for the edited code. By the laws of threads for the words and lists;
 -- the tests' registers stay below the frame, no other label's list changes, and a mark says where a label lies.
-use Prim.Native.Nat.{ℕ, suc, _+_, _-_, _≤_, _<_}
+use Prim.Native.Nat.{ℕ, suc, _+_, _≤_, _<_}
 use mathlib.Core.Bool.{Bool, true, false, not}
 use mathlib.Core.Path.{_≡_, refl, sym, _∙_, subst}
 use mathlib.Core.List.{List, [], _∷_}
@@ -30,8 +30,7 @@ use Rattle.threads.specs.Encoding.{Ctl, Open}
 use Rattle.threads.specs.Places.{jofs}
 use Rattle.threads.specs.Represents.{setH}
 use Rattle.threads.specs.Holding.{Ends, ends-map, Holds, Kept, Aside, with-code, aside-with, emit-line}
-use Rattle.threads.specs.Stepping.{hold-emit-at, hold-over, hold-jump, hold-pair, hold-concat, hold-concat′, hold-here, hold-to-here, hold-discharge, hold-strip, hold-replace, hold-invert, hold-popped}
-use Rattle.threads.specs.Going.{to-here}
+use Rattle.threads.specs.Stepping.{hold-emit-at, hold-over, hold-jump, hold-pair, hold-concat, hold-here, hold-to-here, hold-discharge, hold-strip, hold-replace, hold-invert, hold-popped, to-here}
 use Rattle.threads.specs.Emitting.{discharged}
 use Rattle.threads.specs.Last.{inverted}
 use Rattle.threads.specs.Settling.{hold-settle}
@@ -275,13 +274,6 @@ module _ {Γ : Env} {s : State} {m : Buffers} {H : ℕ → ℕ} {c : Code} {f : 
       Sim Γ s (with-code (linked (m .code) (H b) (H a)) m) (setH b (concat-jumps (H b) (H a)) (setH a 0 H)) (edit (one a (re b false)) c) f t
   sim-concat a b na nb oa ob ne =
       let q = hold-concat (h .holds) a b (λ e. omega arith) (λ e. omega arith) ne in
-      (q .0, sim-make aside-refl (kept-code _) (q .1) (low-edit₁ F a (re b false) tt c (h .low)) (h .label) (marks-edit (one a (re b false)) c s (h .marks)) (λ k u v. rw (same-ne k b (λ e. omega arith), same-ne k a (λ e. omega arith)) refl))
-
-  pub sim-concat′ : (a b : ℕ) → Γ .n ≤ a → Γ .n ≤ b → 1 ≤ a → 1 ≤ b → (a ≡ b → ⊥) →
-      (concat (H a) (H b) s m ≡ done (concat-jumps (H a) (H b)) s (with-code (linked (m .code) (H a) (H b)) m)) ×
-      Sim Γ s (with-code (linked (m .code) (H a) (H b)) m) (setH b (concat-jumps (H a) (H b)) (setH a 0 H)) (edit (one a (re b false)) c) f t
-  sim-concat′ a b na nb oa ob ne =
-      let q = hold-concat′ (h .holds) a b (λ e. omega arith) (λ e. omega arith) ne in
       (q .0, sim-make aside-refl (kept-code _) (q .1) (low-edit₁ F a (re b false) tt c (h .low)) (h .label) (marks-edit (one a (re b false)) c s (h .marks)) (λ k u v. rw (same-ne k b (λ e. omega arith), same-ne k a (λ e. omega arith)) refl))
 
   -- `remove_values`

@@ -29,6 +29,7 @@ use Rattle.labelled.specs.Owning.{freed-own}
 use Rattle.labelled.specs.Discharge.{dv, nextreg}
 use Rattle.labelled.specs.Expressions.{comp, compAll, begin, labelled}
 use Rattle.labelled.specs.Faithful.{count}
+use Rattle.labelled.specs.Settling.{next-free}
 use Rattle.threads.specs.Words.{word-same, word-other}
 use Rattle.threads.specs.Encoding.{Enc, enc-agree}
 use Rattle.threads.specs.Emitting.{discharged, emitted, rep-start}
@@ -42,7 +43,6 @@ use Rattle.simulation.specs.Registers.{sim-reserve}
 use Rattle.simulation.specs.Discharging.{sound-dv}
 use Rattle.simulation.specs.ToRegister.{sim-next}
 use Rattle.simulation.specs.Parts.{at-place, Lowers}
-use Rattle.simulation.specs.Chaining.{next-free}
 use Rattle.simulation.specs.Texts.{Bytes}
 use Rattle.simulation.specs.Trees.{sound-comp}
 use Rattle.simulation.specs.Nodes.{invert, same-parsed, expr-at}

@@ -3,20 +3,14 @@ use Prim.Native.Nat.{ℕ}
 use mathlib.Core.Bool.{Bool, true, false}
 use mathlib.Core.Path.{_≡_, refl}
 use mathlib.Core.List.{[], _∷_}
-use mathlib.Core.Option.{Option, some, none}
-use Rattle.labelled.specs.Code.{same, same-refl, same-ne, same-true, Ctrl, always, test, tset, tseta, cmp, to, lbl, Instr, pl, br, width, cwidth, Code, size, Act, keep, land, re, edit, ed1, edBr, setreg}
+use mathlib.Core.Option.{Option}
+use Rattle.labelled.specs.Code.{same, same-refl, same-ne, same-true, Ctrl, always, test, tset, tseta, cmp, to, lbl, Instr, pl, br, Code, Act, keep, land, re, edit, ed1, edBr}
 use Rattle.labelled.specs.Machine.{pick}
 use Rattle.labelled.specs.Emission.{one}
 
 pub pick-is : {A : Type 0} (t : Bool) (a b : A) → elim t [ true ↦ a | false ↦ b ] ≡ pick t a b
 pick-is true a b = refl
 pick-is false a b = refl
-
--- ---- widths
-
-pub width-setreg : (t : Bool) (r b : ℕ) (c : Bool) → cwidth (setreg t r b c) ≡ 2
-width-setreg true r b c = refl
-width-setreg false r b c = refl
 
 -- ---- one after the other
 

@@ -11,7 +11,7 @@ use lib.ListN.{length, set, length-set, length-replicate}
 use Rattle.buffers.specs.Pad.{zeros}
 use Rattle.instructions.specs.Limits.{maxWords, noReg}
 use Rattle.model.specs.Jumps.{word, linked, remove-values, patch-list-aux}
-use Rattle.labelled.specs.Code.{same, same-refl, same-ne, same-true, same-false, Ctrl, always, to, lbl, PW, Instr, pl, br, pwidth, width, Code, size, Act, land, re, edit}
+use Rattle.labelled.specs.Code.{same, same-refl, same-ne, same-true, same-false, Ctrl, always, to, lbl, PW, Instr, pl, br, pwidth, width, Code, size, Act, re, edit}
 use Rattle.threads.specs.Edits.{edit-fuse, strip-then}
 use Rattle.threads.specs.Words.{word-same, word-other, is-jmp, newJ, next, next-new}
 use Rattle.threads.specs.Places.{jofs, cwidth-tail, key, key-at, isLab, isL, look, mem, count, look-range, look-beyond, edit-absent}

@@ -10,12 +10,6 @@ pub record More (K L : Coding) : Type 0 where
   pub rks : (x : Rk) (u : ℕ) → K .rk x u → L .rk x u
   pub plains : (ws : List ℕ) (n : ℕ) (w : PW) → K .plain ws n w → L .plain ws n w
 
-pub more-refl : (K : Coding) → More K K
-more-refl K = record { rks = λ x u h. h; plains = λ ws n w h. h }
-
-pub more-trans : {K L M : Coding} → More K L → More L M → More K M
-more-trans f g = record { rks = λ x u h. g .rks x u (f .rks x u h); plains = λ ws n w h. g .plains ws n w (f .plains ws n w h) }
-
 module _ {K L : Coding} (m : More K L) where
   ctl-grow : (ws : List ℕ) (n : ℕ) (c : Ctrl) → Ctl K ws n c → Ctl L ws n c
   ctl-grow ws n always h = h

@@ -22,7 +22,7 @@ use Rattle.model.specs.Conditions.{invertjump}
 use Rattle.laws.specs.Truth.{or-false}
 use Rattle.labelled.specs.Code.{Code, size}
 use Rattle.threads.specs.Edits.{pick-is}
-use Rattle.threads.specs.Words.{newJ, patch-none, linked-none}
+use Rattle.threads.specs.Words.{newJ, patch-none}
 use Rattle.threads.specs.Encoding.{Coding}
 use Rattle.threads.specs.Represents.{Rep}
 use Rattle.threads.specs.Emitting.{discharged, emitted, emitted-jump}
@@ -120,9 +120,6 @@ invert-is e s m = refl
 pub concat-zero : (l : ℕ) → concat-jumps l 0 ≡ l
 concat-zero zero = refl
 concat-zero (suc p) = refl
-
-pub here-none : (s : State) (m : Buffers) → patch-to-here 0 s m ≡ done tt s m
-here-none s m = here-is 0 s m ∙ rw (concat-zero (s .jpc), linked-none (m .code) (s .jpc)) refl
 
 -- ---- a word more
 

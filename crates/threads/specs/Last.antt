@@ -1,27 +1,26 @@
 -- The last instruction: another word in its place (A set, `LoadNil` lengthened, the B of `Concat`), the comparison of `invertjump`, and a word taken back (`Not`).
 -- No list sees the word that changes, and a word taken back is zero.
-use Prim.Native.Nat.{ℕ, suc, _+_, _%_, _≤_, _<_}
+use Prim.Native.Nat.{ℕ, _+_, _%_, _≤_, _<_}
 use mathlib.Core.Bool.{Bool, true, false, not}
 use mathlib.Core.Path.{_≡_, refl, sym, _∙_}
 use mathlib.Core.List.{List, _∷_}
 use native.Mathlib.Omega.{arith}
 use lib.ListN.{length, set, length-set}
 use lib.Dec.{eqb}
-use Rattle.instructions.specs.Limits.{maxWords, noReg, aSize}
+use Rattle.instructions.specs.Limits.{maxWords, aSize}
 use Rattle.instructions.specs.Word.{aOf, setAOf, abcOf}
 use Rattle.instructions.specs.Laws.{a-abc, set-a-abc}
-use Rattle.opcodes.specs.declared.OpCode.the-variants.{Test}
 use Rattle.model.specs.Values.{Kind}
 use Rattle.model.specs.Jumps.{word, get-jump-control}
 use Rattle.model.specs.Conditions.{bit}
-use Rattle.labelled.specs.Code.{Rk, same, same-ne, same-true, same-false, test, cmp, lbl, PW, mark, Instr, pl, br, pwidth, width, Code, size}
+use Rattle.labelled.specs.Code.{Rk, same, same-ne, same-true, same-false, cmp, lbl, PW, mark, Instr, pl, br, pwidth, width, Code, size}
 use Rattle.threads.specs.Words.{word-same, word-other}
 use Rattle.threads.specs.Places.{key, isLab, isL, look, look-beyond, look-range, mem, count}
 use Rattle.threads.specs.Encoding.{comparison, comparison-tests, Coding, pend, EncI, enc-agree}
 use Rattle.threads.specs.Turns.{ctl-pair, tests}
 use Rattle.threads.specs.Chains.{bool-clash, chain-keep}
-use Rattle.threads.specs.Represents.{Thr, setH, Rep}
-use Rattle.threads.specs.Emitting.{no-lab, on-top, count-top, thr-top, rep-plain, emitted-pair, rep-pair, edit-none}
+use Rattle.threads.specs.Represents.{Thr, Rep}
+use Rattle.threads.specs.Emitting.{no-lab, on-top, count-top, thr-top, rep-plain}
 
 -- a mark has no word
 pub rep-mark : {K : Coding} {cap : ℕ} {ws : List ℕ} {H : ℕ → ℕ} {c : Code} → K .plain ws (size c) mark → Rep K cap ws H c → Rep K cap ws H (pl mark ∷ c)
@@ -141,9 +140,3 @@ module _ {K : Coding} {cap : ℕ} {ws : List ℕ} {H : ℕ → ℕ} {c : Code} {
       gone : (q : ℕ) → size c ≤ q → (t : Bool) → same q (size c) ≡ t → word us q ≡ 0
       gone q l true e = rw (same-true q (size c) e) (word-same ws (size c) 0 (omega (arith, r .fits, r .len)))
       gone q l false e = word-other ws (size c) q 0 (same-false q (size c) e) ∙ r .clean q (omega (arith, same-false q (size c) e))
-
-  -- `jumponcond` on a `Not` that is still to get its register: popped, then `Test` with the opposite sense and a Jmp under a new label; no jump is pending to here
-  pub rep-popped : (b m : ℕ) (k : Bool) → b < noReg → H 0 ≡ 0 → H m ≡ 0 → 1 + size c < cap → 1 + size c < maxWords →
-      Rep K cap (emitted-pair (set ws (size c) 0) (size c) (H 0) (abcOf Test b 0 (bit k))) (setH m (suc (1 + size c)) (setH 0 0 H)) (br (test b k) (lbl m) ∷ c)
-  rep-popped b m k l z f room few =
-      rw (edit-none rep-taken 0 _ z) at (rep-pair rep-taken (test b k) m (abcOf Test b 0 (bit k)) refl tt (λ us e. (e, l)) f room few)

@@ -12,6 +12,5 @@ pub mod Growing
 pub mod Coded
 pub mod Holding
 pub mod Stepping
-pub mod Going
 pub mod Landing
 pub mod Settling

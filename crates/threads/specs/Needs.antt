@@ -11,12 +11,12 @@ use Rattle.instructions.specs.Limits.{noReg}
 use Rattle.opcodes.specs.declared.OpCode.the-variants.{Test, TestSet}
 use Rattle.model.specs.Jumps.{word, keeps-value, need-value}
 use Rattle.model.specs.Conditions.{bit}
-use Rattle.labelled.specs.Code.{same, same-refl, same-ne, Ctrl, always, test, tset, tseta, cmp, to, lbl, Instr, pl, br, Code, size}
+use Rattle.labelled.specs.Code.{same, same-refl, same-ne, always, test, tset, tseta, cmp, to, lbl, Instr, pl, br, Code, size}
 use Rattle.threads.specs.Words.{next}
 use Rattle.threads.specs.Places.{tail, key, key-at, memK, here-lab, below-lab, isLab, isL, look, mem, look-imp, look-beyond, look-apart, lab-apart}
 use Rattle.threads.specs.Encoding.{isTest, comparison, comparison-tests, comparison-keeps-none, Coding, pend, isP, lab-pend, EncI, Enc, prev-word}
 use Rattle.threads.specs.Turns.{ctl-pair, ctl-alone, tests, sets, jmp-sets-none}
-use Rattle.threads.specs.Chains.{bool-clash, Chain}
+use Rattle.threads.specs.Chains.{bool-clash, Chain, or-true-r}
 use Rattle.threads.specs.Represents.{Rep, fuel}
 use Rattle.labelled.specs.Machine.{pick}
 use Rattle.labelled.specs.Emission.{hit, hit1, isSet}
@@ -35,11 +35,7 @@ anyL f (p ∷ l) = f p || anyL f l
 anyL-ext : (f g : ℕ → Bool) (l : List ℕ) → ((p : ℕ) → mem p l ≡ true → f p ≡ g p) → anyL f l ≡ anyL g l
 unfolding anyL
 anyL-ext f g [] h = refl
-anyL-ext f g (p ∷ l) h = rw (h p (rw (same-refl p) refl), anyL-ext f g l (λ q m. h q (rw m (or-t (same q p))))) refl
-  where
-    or-t : (s : Bool) → (s || true) ≡ true
-    or-t true = refl
-    or-t false = refl
+anyL-ext f g (p ∷ l) h = rw (h p (rw (same-refl p) refl), anyL-ext f g l (λ q m. h q (or-true-r (same q p) (mem q l) m))) refl
 
 -- a list of positions against the code
 any-cons : (F : Instr → Bool) (i : Instr) (c : Code) (l : List ℕ) → anyL (look F (i ∷ c)) l ≡ ((memK (size c) i l && F i) || anyL (look F c) l)

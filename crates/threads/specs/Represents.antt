@@ -13,7 +13,7 @@ use Rattle.threads.specs.Words.{patchAt, patch-walk, jumped-off, len-jum
 use Rattle.threads.specs.Places.{edI, isLab, isL, atPos, allPos, mem, count, count-size, all-edit, size-atPos, width-edI, key-edI, look-edit, look-or, look-imp, look-apart, look-range, look-none, look-other, count-edit, count-or, lab-re, lab-land, lab-apart, lab-off, lab-gone, lab-kept, lab-both}
 use Rattle.threads.specs.Encoding.{Coding, pend, isP, lab-pend, EncI, Enc}
 use Rattle.threads.specs.Turns.{optR, ret-jump, len-ret, patch-keeps, len-patch, ret-behind, patch-behind, patch-step, strip-step, link-step}
-use Rattle.threads.specs.Chains.{bool-clash, NoDup, Chain, Apart, Small, mem-append, nodup-append, chain-in, fold, walk-fold, len-fold, fold-chain, fold-behind, fold-stays, stripAt, strip-fold, jump-chain, join-chain, Joined, stays, sent, join-how}
+use Rattle.threads.specs.Chains.{bool-clash, NoDup, Chain, Apart, Small, mem-append, nodup-append, chain-in, fold, walk-fold, len-fold, fold-chain, fold-behind, fold-stays, stripAt, strip-fold, jump-chain, join-chain, Joined, stays, sent, join-how, or-true-r}
 use Rattle.labelled.specs.Machine.{pick}
 use Rattle.labelled.specs.Emission.{one}
 use Rattle.labelled.specs.Edits.{size-edit}
@@ -76,13 +76,9 @@ module _ (K : Coding) (a : Act) (f : List ℕ → ℕ → List ℕ) (len : (ws :
   unfolding fold allPos
   fold-enc [] ws c z n q o h = h
   fold-enc (p ∷ l) ws c z n q o h = fold-enc l (f ws p) (atPos (edI a) p c) (omega (arith, len ws p, size-atPos (edI a) (width-edI a) p c)) (n .1)
-      (λ r m. look-other pend (edI a) (width-edI a) (key-edI a) p r c (λ e. bool-clash (mem p l) (rw e at m) (n .0)) ∙ q r (rw m (or-t (same r p))))
-      (λ r m. o r (rw m (or-t (same r p))))
+      (λ r m. look-other pend (edI a) (width-edI a) (key-edI a) p r c (λ e. bool-clash (mem p l) (rw e at m) (n .0)) ∙ q r (or-true-r (same r p) (mem r l) m))
+      (λ r m. o r (or-true-r (same r p) (mem r l) m))
       (step ws p (omega (arith, look-range pend c p (q p (rw (same-refl p) refl)))) (o p (rw (same-refl p) refl)) c h (q p (rw (same-refl p) refl)))
-    where
-      or-t : (s : Bool) → (s || true) ≡ true
-      or-t true = refl
-      or-t false = refl
 
 -- ---- the operations
 
@@ -220,7 +216,3 @@ module _ {K : Coding} {cap : ℕ} {ws : List ℕ} {H : ℕ → ℕ} {c : Code} (
       swap true false = refl
       swap false true = refl
       swap false false = refl
-
-  -- concat_jumps(a, b), called b
-  pub rep-concat′ : (a b : ℕ) → (a ≡ b → ⊥) → Rep K cap (linked ws (H a) (H b)) (setH b (concat-jumps (H a) (H b)) (setH a 0 H)) (edit (one a (re b false)) c)
-  rep-concat′ a b n = rep-join a b a b n n (λ i. lab-both a b i) (λ ℓ p q. p)

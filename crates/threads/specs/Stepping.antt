@@ -21,7 +21,7 @@ use Rattle.threads.specs.Words.{word-same, word-other, newJ, patch-none,
 use Rattle.threads.specs.Places.{jofs, cwidth-tail, isL}
 use Rattle.threads.specs.Encoding.{Coding, Ctl, Open}
 use Rattle.threads.specs.Turns.{optR}
-use Rattle.threads.specs.Represents.{setH, rep-patch, rep-strip, rep-concat, rep-concat′}
+use Rattle.threads.specs.Represents.{setH, rep-patch, rep-strip, rep-concat}
 use Rattle.threads.specs.Emitting.{discharged, emitted, emitted-pair, emitted-jump, edit-none, rep-heads, rep-discharge, rep-emit, rep-pair, rep-emit-jump}
 use Rattle.threads.specs.Needs.{some-hit}
 use Rattle.threads.specs.Growing.{More, rep-grow}
@@ -42,6 +42,10 @@ pop-is f s m = refl
 size-mark : (n : ℕ) (c : Code) → n ≡ size c → n ≡ size (pl mark ∷ c)
 unfolding size
 size-mark n c e = omega arith
+
+-- labelled code in which label b goes to here, with a mark if there is a jump
+abbrev pub to-here : ℕ → Code → Code
+to-here b c = pick (hit false b b c) (pl mark ∷ edit (one b (re 0 false)) c) c
 
 module _ {K : Coding} {cap : ℕ} {s : State} {m : Buffers} {H : ℕ → ℕ} {c : Code} (h : Holds K cap s m H c) where
   -- `discharge_jpc`
@@ -175,19 +179,6 @@ module _ {K : Coding} {cap : ℕ} {s : State} {m : Buffers} {H : ℕ → ℕ} {c
     },
   )
 
-  -- list b goes behind list a, and both are called b
-  pub hold-concat′ : (a b : ℕ) → (a ≡ 0 → ⊥) → (b ≡ 0 → ⊥) → (a ≡ b → ⊥) →
-      (concat (H a) (H b) s m ≡ done (concat-jumps (H a) (H b)) s (with-code (linked (m .code) (H a) (H b)) m)) ×
-      Holds K cap s (with-code (linked (m .code) (H a) (H b)) m) (setH b (concat-jumps (H a) (H b)) (setH a 0 H)) (edit (one a (re b false)) c)
-  hold-concat′ a b a0 b0 ab = (
-    concat-is (H a) (H b) s m,
-    record {
-      rep = rep-concat′ (h .rep) a b ab;
-      pcs = h .pcs ∙ sym (size-edit (one a (re b false)) c);
-      jpcs = h .jpcs ∙ rw (same-ne 0 b (λ e. b0 (sym e)), same-ne 0 a (λ e. a0 (sym e))) refl;
-    },
-  )
-
   -- `patch_to_here` of a list: its jumps go to the word to come
   pub hold-here : (a : ℕ) → (a ≡ 0 → ⊥) →
       (patch-to-here (H a) s m ≡ done tt (with-jpc (concat-jumps (s .jpc) (H a)) s) (with-code (linked (m .code) (s .jpc) (H a)) m)) ×
@@ -203,7 +194,7 @@ module _ {K : Coding} {cap : ℕ} {s : State} {m : Buffers} {H : ℕ → ℕ} {c
 
   -- with a mark where the list is not empty, as labelled code has it
   pub hold-to-here : (a : ℕ) → (a ≡ 0 → ⊥) → ((us : List ℕ) (n : ℕ) → K .plain us n mark) →
-      Holds K cap (with-jpc (concat-jumps (s .jpc) (H a)) s) (with-code (linked (m .code) (s .jpc) (H a)) m) (setH 0 (concat-jumps (H 0) (H a)) (setH a 0 H)) (pick (hit false a a c) (pl mark ∷ edit (one a (re 0 false)) c) c)
+      Holds K cap (with-jpc (concat-jumps (s .jpc) (H a)) s) (with-code (linked (m .code) (s .jpc) (H a)) m) (setH 0 (concat-jumps (H 0) (H a)) (setH a 0 H)) (to-here a c)
   hold-to-here a a0 mk = rw (← (some-hit (h .rep) a a)) (go (same (H a) 0) refl)
     where
       q : Holds K cap (with-jpc (concat-jumps (s .jpc) (H a)) s) (with-code (linked (m .code) (s .jpc) (H a)) m) (setH 0 (concat-jumps (H 0) (H a)) (setH a 0 H)) (edit (one a (re 0 false)) c)
@@ -314,13 +305,3 @@ pub hold-invert : {K : Coding} {cap : ℕ} {s : State} {m : Buffers} {H : ℕ �
     (invertjump e s m ≡ done tt s (with-code (inverted (m .code) (e .info)) m)) × Holds K cap s (with-code (inverted (m .code) (e .info)) m) H (br (cmp o (not k) x y) (lbl ℓ) ∷ c)
 unfolding size
 hold-invert {s = s} {m = m} e z h = (invert-is e s m, record { rep = rw z (rep-invert (h .rep)); pcs = h .pcs; jpcs = h .jpcs })
-
--- the new jump on top, of a label J of its own, goes behind list a; so do those below it that took its label
-pub hold-into : {K : Coding} {cap : ℕ} {s : State} {m : Buffers} {H : ℕ → ℕ} {c d : Code} {k : Ctrl} {J : ℕ} (a : ℕ) → (J ≡ 0 → ⊥) → (a ≡ 0 → ⊥) → (J ≡ a → ⊥) → edit (one J (re a false)) c ≡ d →
-    Holds K cap s m H (br k (lbl J) ∷ c) →
-    (concat (H a) (H J) s m ≡ done (concat-jumps (H a) (H J)) s (with-code (linked (m .code) (H a) (H J)) m)) ×
-    Holds K cap s (with-code (linked (m .code) (H a) (H J)) m) (setH a (concat-jumps (H a) (H J)) (setH J 0 H)) (br k (lbl a) ∷ d)
-unfolding edit
-hold-into {J = J} a J0 a0 Ja e h =
-    let q = hold-concat h J a J0 a0 Ja in
-    (q .0, rw (same-refl J, e) at (q .1))

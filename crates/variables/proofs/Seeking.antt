@@ -1,21 +1,20 @@
 -- One turn of the search for a local: what the names from a place on give, with what was found before. By cases on what was read.
 use Prim.Native.Nat.{ℕ, zero, suc, _+_, _-_, _≤_, _<_}
-use mathlib.Core.Path.{_≡_, refl, sym, ap, _∙_}
-use mathlib.Core.List.{List, [], _∷_}
+use mathlib.Core.Path.{_≡_, refl, sym}
+use mathlib.Core.List.{List}
 use mathlib.Core.Bool.{Bool, true, false}
 use mathlib.Core.Option.{Option, some, none}
 use native.Mathlib.Omega.{arith}
 use native.Mathlib.Numerals.{add-one}
 use Rattle.constants.specs.Entry.{sameBytes}
-use Rattle.constants.specs.declared.Found.the-variants.{At, Nothing}
 use Rattle.cursor.specs.Fields.{bytesOf, textAt, endOf}
 use Rattle.cursor.specs.declared.Text.{Text}
 use Rattle.cursor.specs.declared.TextRead.the-variants as text
 use Rattle.chunk.specs.Headers.{Names, names, missing, before, namesAt}
 use Rattle.chunk.specs.Form.{namesOf}
-use Rattle.model.specs.Values.{later, named}
+use Rattle.model.specs.Values.{later}
 use Rattle.model.specs.Expressions.{search-local}
-use Rattle.variables.specs.Found.{foundIs, newest}
+use Rattle.variables.specs.Found.{newest}
 
 -- 0 for none, r + 1 for the register r
 abbrev decode : ℕ → Option ℕ

@@ -1,7 +1,7 @@
 -- What the answer of a search for a local stands for, and what the search keeps on its way. Assumes nothing.
-use Prim.Native.Nat.{ℕ, zero, suc, _+_}
+use Prim.Native.Nat.{ℕ, _+_}
 use mathlib.Core.List.{List}
-use mathlib.Core.Bool.{Bool, true, false}
+use mathlib.Core.Bool.{true, false}
 use mathlib.Core.Option.{Option, some, none}
 use Rattle.constants.specs.Entry.{sameBytes}
 use Rattle.constants.specs.declared.Found.{Found}

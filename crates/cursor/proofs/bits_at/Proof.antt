@@ -1,6 +1,5 @@
 -- By whether the bytes are there.
 use mathlib.Core.Path.{_∙_}
-use native.Mathlib.Omega.{arith}
 use Rattle.cursor.specs.Fields.{bitsAt}
 use Rattle.cursor.specs.Inside.{has-true}
 use borrow.Author.Needs.{needs}

@@ -1,6 +1,6 @@
 -- `instructions::with_field` meets its contract: the whole is below 2 ^ 32 by `set-lt`, and so is each part of it. Assumes nothing.
 use borrow.Author.Needs.{needs}
-use Prim.Native.Nat.{ℕ, _+_, _*_, _/_, _%_, _<_, _≤_, _^_}
+use Prim.Native.Nat.{_+_, _*_, _/_, _%_, _<_, _^_}
 use native.Mathlib.Omega.{arith}
 use native.Mathlib.Nat.{le-mul-of-pos-right}
 use Rattle.instructions.specs.Field.{setAt}

@@ -1,6 +1,5 @@
 -- By the test of the two texts.
 use Rattle.variables.specs.Found.{newest}
-use native.Mathlib.Omega.{arith}
 use borrow.Author.Needs.{needs}
 use Rattle.variables.proofs.newer.Statement.{statement}
 use Rattle.variables.proofs.newer.Tie as tie

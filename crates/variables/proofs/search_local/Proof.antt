@@ -2,7 +2,7 @@
 use denote.Ref.{now}
 use native.Mathlib.Nat.{sub-zero}
 use borrow.Author.Needs.{needs}
-use mathlib.Core.Path.{_≡_, refl, sym, _∙_}
+use mathlib.Core.Path.{_≡_, _∙_}
 use Prim.Native.Nat.{_-_, _+_}
 use native.Mathlib.Omega.{arith}
 use Rattle.cursor.specs.Fields.{bytesOf}

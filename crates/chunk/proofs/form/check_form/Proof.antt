@@ -1,6 +1,6 @@
 -- Each way out is a law of `Forming`, at what the walk and the header gave.
 use Rattle.chunk.proofs.Forming.{as-many, form-long, form-header, form-cut, form-trailing, form-done}
-use mathlib.Core.Path.{_∙_, sym, ap}
+use mathlib.Core.Path.{_∙_}
 use native.Mathlib.Omega.{arith}
 use Rattle.chunk.proofs.Insides.{header-in}
 use borrow.Author.Needs.{needs}

@@ -1,5 +1,5 @@
 -- Each way out is one way through `headerAt`.
-use borrow.Author.Tests.{le-leb, lt-leb, lt-ltb, le-ltb, eq-eqb, ne-eqb}
+use borrow.Author.Tests.{le-leb, lt-leb, eq-eqb, ne-eqb}
 use Rattle.chunk.specs.Headers.{headerAt}
 use Rattle.chunk.specs.Skipping.{varargs-bit}
 use borrow.Author.Needs.{needs}
