@@ -155,7 +155,7 @@ fn past_fours(values: &[u64], n: usize, bits: u64) -> usize
 }
 
 // Of the first `n` entries the first number of these bits: 0.0 and -0.0 are two constants, and a NaN is itself.
-fn find_number(kinds: &[u8], values: &[u64], n: usize, bits: u64) -> Found
+fn find_bits(kinds: &[u8], values: &[u64], n: usize, bits: u64) -> Found
     requires { ⌜ (n ≤ length (now kinds)) × (n ≤ length (now values)) ⌝ }
     ensures { λ r. ⌜ findIn (λ k w. eqb w bits && eqb k 3) n (now (kinds .entry)) (now (values .entry)) ≡ r ⌝ }
 {
@@ -214,7 +214,7 @@ pub fn find(kinds: &[u8], values: &[u64], pool: &[u8], chunk: &[u8], count: usiz
     match v {
         Val::Nil => find_kind(kinds, n, 0),
         Val::Truth(b) => find_kind(kinds, n, truth_kind(b)),
-        Val::Number { value: _, bits } => find_number(kinds, values, n, bits),
+        Val::Number { value: _, bits } => find_bits(kinds, values, n, bits),
         Val::Text { start, len } => find_text(kinds, values, pool, n, part(chunk, start, len)),
     }
 }
@@ -224,7 +224,7 @@ pub fn find_numeral(kinds: &[u8], values: &[u64], count: usize, bits: u64) -> Fo
     ensures { λ r. ⌜ ((pool chunk : List ℕ) (v : Val) → constantOf chunk v ≡ number bits → findIn (holds pool chunk v) count (now (kinds .entry)) (now (values .entry)) ≡ r) ⌝ }
 {
     let n = least(count, least(kinds.len(), values.len()));
-    find_number(kinds, values, n, bits)
+    find_bits(kinds, values, n, bits)
 }
 
 // Stores the bytes of `from` in `to` from `at` on.

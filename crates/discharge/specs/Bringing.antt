@@ -145,23 +145,23 @@ module _ (e : ExprContext) (s : State) (m : Buffers) {k : Refusal} {n : Buffers}
 abbrev as-rk : Result ExprContext → Result ExprContext
 as-rk x = andThen x (λ (d : ExprContext). rk-kind (d .kind) d)
 
-bound : {A : Type 0} (x : Result A) (f : A → Step ExprContext) → ((a : A) (s : State) (m : Buffers) → as-rk (f a s m) ≡ f a s m) → as-rk (andThen x f) ≡ andThen x f
+as-rk-then : {A : Type 0} (x : Result A) (f : A → Step ExprContext) → ((a : A) (s : State) (m : Buffers) → as-rk (f a s m) ≡ f a s m) → as-rk (andThen x f) ≡ andThen x f
 unfolding andThen
-bound (done a s m) f h = h a s m
-bound (refused k m) f h = refl
+as-rk-then (done a s m) f h = h a s m
+as-rk-then (refused k m) f h = refl
 
 module _ (reg : ℕ) where
   landed : (d : ExprContext) (s : State) (m : Buffers) → as-rk (placed d reg s m) ≡ placed d reg s m
   unfolding andThen rk-kind exp2anyreg discharge-kind
-  landed d s m = bound (join-jump d s m) _ (λ x a b. bound (branch (has-jumps x) (settle x reg) skip a b) (give (with-kind kind.NonReloc reg (with-jumps 0 0 x))) (λ _ c o. refl))
+  landed d s m = as-rk-then (join-jump d s m) _ (λ x a b. as-rk-then (branch (has-jumps x) (settle x reg) skip a b) (give (with-kind kind.NonReloc reg (with-jumps 0 0 x))) (λ _ c o. refl))
 
   reg-landed : (e : ExprContext) (s : State) (m : Buffers) → as-rk (exp2reg e reg s m) ≡ exp2reg e reg s m
   unfolding exp2reg
-  reg-landed e s m = bound (discharge2reg e reg s m) _ landed
+  reg-landed e s m = as-rk-then (discharge2reg e reg s m) _ landed
 
 next-landed : (e : ExprContext) (s : State) (m : Buffers) → as-rk (exp2nextreg e s m) ≡ exp2nextreg e s m
 unfolding exp2nextreg
-next-landed e s m = bound (discharge-vars e s m) _ (λ d a b. bound (free-expr d a b) _ (λ _ c o. bound (alloc-reg c o) _ (λ reg. reg-landed reg d)))
+next-landed e s m = as-rk-then (discharge-vars e s m) _ (λ d a b. as-rk-then (free-expr d a b) _ (λ _ c o. as-rk-then (alloc-reg c o) _ (λ reg. reg-landed reg d)))
 
 branched : (c : Bool) (x y : Step ExprContext) (s : State) (m : Buffers) → as-rk (x s m) ≡ x s m → as-rk (y s m) ≡ y s m → as-rk (branch c x y s m) ≡ branch c x y s m
 branched true x y s m p q = p
@@ -194,7 +194,7 @@ anywhere d s m false q = ap as-rk (any-elsewhere d s m q) ∙ next-landed d s m 
 
 any-landed : (e : ExprContext) (s : State) (m : Buffers) → as-rk (exp2anyreg e s m) ≡ exp2anyreg e s m
 unfolding exp2anyreg
-any-landed e s m = bound (discharge-vars e s m) _ (λ d a b. anywhere d a b (isKind kind.NonReloc d) refl)
+any-landed e s m = as-rk-then (discharge-vars e s m) _ (λ d a b. anywhere d a b (isKind kind.NonReloc d) refl)
 
 pub no-jumps : (b : Bool) → not b ≡ true → b ≡ false
 no-jumps true q = absurd (false≢true q)

@@ -64,13 +64,13 @@ unfolding Stays
 onward Q s t p (done b u m) q = (ap (λ (x : State). same-place x u) p ∙ q .0, q .1)
 onward Q s t p (refused k m) q = tt
 
-bound : {A B : Type 0} (P : A → Type 0) (Q : B → Type 0) (s : State) (x : Result A) (f : A → Step B) → Stays P s x → ((a : A) (t : State) (m : Buffers) → P a → Stays Q t (f a t m)) → Stays Q s (andThen x f)
+stays-then : {A B : Type 0} (P : A → Type 0) (Q : B → Type 0) (s : State) (x : Result A) (f : A → Step B) → Stays P s x → ((a : A) (t : State) (m : Buffers) → P a → Stays Q t (f a t m)) → Stays Q s (andThen x f)
 unfolding andThen Stays
-bound P Q s (done a t m) f p h = onward Q s t (p .0) (f a t m) (h a t m (p .1))
-bound P Q s (refused k m) f p h = tt
+stays-then P Q s (done a t m) f p h = onward Q s t (p .0) (f a t m) (h a t m (p .1))
+stays-then P Q s (refused k m) f p h = tt
 
 moves : {A B : Type 0} (s : State) (x : Result A) (f : A → Step B) → Moves s x → ((a : A) (t : State) (m : Buffers) → Moves t (f a t m)) → Moves s (andThen x f)
-moves s x f p h = bound Told Told s x f p (λ a t m _. h a t m)
+moves s x f p h = stays-then Told Told s x f p (λ a t m _. h a t m)
 
 either-way : {A : Type 0} (P : A → Type 0) (b : Bool) (x y : Step A) (s : State) (m : Buffers) → Stays P s (x s m) → Stays P s (y s m) → Stays P s (branch b x y s m)
 either-way P true x y s m p q = p
@@ -78,7 +78,7 @@ either-way P false x y s m p q = q
 
 -- a step, and then a descriptor
 brings : {A : Type 0} (e : ExprContext) (s : State) (x : Result A) (f : A → Step ExprContext) → Moves s x → ((a : A) (t : State) (m : Buffers) → Brings e t (f a t m)) → Brings e s (andThen x f)
-brings e s x f p h = bound Told (Of e) s x f p (λ a t m _. h a t m)
+brings e s x f p h = stays-then Told (Of e) s x f p (λ a t m _. h a t m)
 
 -- a descriptor, and what becomes of it
 of-of : (e d : ExprContext) (s : State) (x : Result ExprContext) → Of e d → Brings d s x → Brings e s x
@@ -87,7 +87,7 @@ of-of e d s (done c t m) p q = (q .0, ap (λ (x : ExprContext). same-number x c)
 of-of e d s (refused k m) p q = tt
 
 goes-on : (e : ExprContext) (s : State) (x : Result ExprContext) (f : ExprContext → Step ExprContext) → Brings e s x → ((d : ExprContext) (t : State) (m : Buffers) → Brings d t (f d t m)) → Brings e s (andThen x f)
-goes-on e s x f p h = bound (Of e) (Of e) s x f p (λ d t m q. of-of e d t (f d t m) q (h d t m))
+goes-on e s x f p h = stays-then (Of e) (Of e) s x f p (λ d t m q. of-of e d t (f d t m) q (h d t m))
 
 -- ---- emission and registers
 

@@ -30,8 +30,8 @@ find-kind-requires-2 c κs = omega arith
 enum-known-v-2 : tie.Need-enum-known-v-2
 enum-known-v-2 c = c .match .keys3
 
-find-number-requires : tie.Need-find-number-requires
-find-number-requires c κs = omega arith
+find-bits-requires : tie.Need-find-bits-requires
+find-bits-requires c κs = omega arith
 
 enum-known-v-3 : tie.Need-enum-known-v-3
 enum-known-v-3 c = c .match .keys4
@@ -58,7 +58,7 @@ returns-3 : tie.Need-returns-3
 unfolding entryOf same
 returns-3 c =
     found-by _ _ _ _ _ _ _ (c .before .before .before .before .before .least .ensures) (c .before .before .before .before .least2 .ensures)
-    (holds-kind _ _ _ (number _) (ap (constantOf _) (c .before .before .v2 .given .1))) (c .find-number .ensures)
+    (holds-kind _ _ _ (number _) (ap (constantOf _) (c .before .before .v2 .given .1))) (c .find-bits .ensures)
 
 returns-4 : tie.Need-returns-4
 unfolding entryOf same
@@ -78,7 +78,7 @@ find-spec =
     truth-kind-requires
     find-kind-requires-2
     enum-known-v-2
-    find-number-requires
+    find-bits-requires
     enum-known-v-3
     part-requires
     find-text-requires

@@ -1,4 +1,4 @@
--- `constants::find_number` meets its contract. The loop's invariant: no entry below i is the number.
+-- `constants::find_bits` meets its contract. The loop's invariant: no entry below i is the number.
 use mathlib.Core.Bool.{_&&_}
 use mathlib.Core.Logic.{⊎-elim}
 use Prim.Native.Nat.{_-_}
@@ -7,8 +7,8 @@ use lib.Dec.{eqb}
 use borrow.Author.Count.{below-more}
 use borrow.Author.Tests.{eq-eqb, ne-eqb}
 use Rattle.constants.proofs.Steps.{Passed, found-first, found-nowhere}
-use Rattle.constants.proofs.find_number.Statement.{statement}
-use Rattle.constants.proofs.find_number.Tie as tie
+use Rattle.constants.proofs.find_bits.Statement.{statement}
+use Rattle.constants.proofs.find_bits.Tie as tie
 
 abbrev Inv-loop : tie.InvT-loop
 Inv-loop kinds values n bits i₀ i = Passed (λ k w. eqb w bits && eqb k 3) kinds values i
@@ -52,8 +52,8 @@ returns-2 c =
     let at = c .before .loop in
     found-nowhere _ _ _ _ (at .i) (omega arith) (at .inv)
 
-pub find-number-spec : {M : Type 1} → statement M
-find-number-spec =
+pub find-bits-spec : {M : Type 1} → statement M
+find-bits-spec =
     tie.close
     (tie.spec
     Inv-loop
