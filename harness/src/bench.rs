@@ -69,7 +69,8 @@ fn fitting(n: usize, constants: usize, text: usize) -> Buffers {
     Buffers::new(&Sizes { code: 8 * n + 1, lines: 8 * n + 1, kinds: constants, values: constants, pool: text, scratch: n, counts: 4 })
 }
 
-pub fn run(only: Option<&str>) {
+pub fn run(only: Option<&str>) -> i32 {
+    let mut rows = 0;
     println!("Nanoseconds per node, median of {ROUNDS} rounds in which the columns take turns.");
     println!("ours: the whole call, from bytes, clearing included; `8n+1`: buffers of 8n + 1 words and lines, constants and text as needed, scratch n;");
     println!("`weavelist`: 8192 words and lines, 2048 constants, 32768 text bytes, scratch 16384.");
@@ -93,12 +94,18 @@ pub fn run(only: Option<&str>) {
                 let refused = weavelist.lower(&bytes);
                 let calls = (40_000 / n).max(1);
                 let (mut a, mut b, mut c, mut d) = (Vec::new(), Vec::new(), Vec::new(), Vec::new());
-                for _ in 0..ROUNDS {
-                    a.push(time(calls, || { black_box(small.lower(black_box(&bytes))); }));
-                    c.push(time(calls, || { let _ = black_box(codegen::drive::drive(&tree.locals, tree.varargs, black_box(&tree.formulas))); }));
-                    b.push(time(calls, || { black_box(weavelist.lower(black_box(&bytes))); }));
-                    d.push(time(calls, || { let t = chunk::read(black_box(&bytes)).unwrap(); let _ = black_box(codegen::drive::drive(&t.locals, t.varargs, &t.formulas)); }));
+                for round in 0..ROUNDS {
+                    // each round begins with another column, so that none always follows the same one
+                    for turn in 0..4 {
+                        match (round + turn) % 4 {
+                            0 => a.push(time(calls, || { black_box(small.lower(black_box(&bytes))); })),
+                            1 => c.push(time(calls, || { let _ = black_box(codegen::drive::drive(&tree.locals, tree.varargs, black_box(&tree.formulas))); })),
+                            2 => b.push(time(calls, || { black_box(weavelist.lower(black_box(&bytes))); })),
+                            _ => d.push(time(calls, || { let t = chunk::read(black_box(&bytes)).unwrap(); let _ = black_box(codegen::drive::drive(&t.locals, t.varargs, &t.formulas)); })),
+                        }
+                    }
                 }
+                rows += 1;
                 let per = |v: Vec<f64>| median(v) / n as f64;
                 let (a, b, c, d) = (per(a), per(b), per(c), per(d));
                 let (b, to_rust) = if refused == 0 { (format!("{b:.1}"), format!("{:.2}", b / c)) } else { (format!("refused {refused}"), "-".to_string()) };
@@ -106,6 +113,8 @@ pub fn run(only: Option<&str>) {
             }
         }
     }
+    if rows == 0 { println!("NO ROW is named so: NODES-SHAPE-CONSTANTS with 10, 1000 or 10000, flat or deep, 4 or 255") }
+    i32::from(rows == 0)
 }
 
 /// All bytes once, eight at a time: true where one isn't 0.

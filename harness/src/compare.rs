@@ -6,6 +6,7 @@ use crate::generators::{KINDS, make};
 use crate::ours::{Buffers, Sizes};
 use rilua::Out;
 use rilua::compiler::{ast::Expr, codegen, codegen_differences};
+use std::cell::Cell;
 use std::collections::HashSet;
 use std::hash::{DefaultHasher, Hash, Hasher};
 use std::time::Instant;
@@ -24,17 +25,19 @@ struct Tally {
     dropped: u64,
     equal_unchanged: u64,
     not_utf8: u64,
+    /// the unchanged Rust panics, where the one with the differences answers
     panics: u64,
-    /// calls with smaller buffers: exactly enough, and too small by number
+    /// calls with smaller buffers: exactly enough, too small by number, and two too small at once, where either number may be given
     exact: u64,
     short: [u64; 14],
+    either: u64,
     mismatches: u64,
 }
 
 impl Tally {
     fn add(&mut self, t: &Tally) {
         self.chunks += t.chunks; self.accepted += t.accepted; self.near_constants += t.near_constants; self.compared += t.compared; self.differ += t.differ; self.dropped += t.dropped;
-        self.equal_unchanged += t.equal_unchanged; self.not_utf8 += t.not_utf8; self.panics += t.panics; self.exact += t.exact; self.mismatches += t.mismatches;
+        self.equal_unchanged += t.equal_unchanged; self.not_utf8 += t.not_utf8; self.panics += t.panics; self.exact += t.exact; self.either += t.either; self.mismatches += t.mismatches;
         for i in 0..14 { self.refused[i] += t.refused[i]; self.short[i] += t.short[i]; }
     }
 }
@@ -42,8 +45,19 @@ impl Tally {
 type Answer = Result<Out, String>;
 type Drive = fn(&[String], bool, &[Expr]) -> Answer;
 
+thread_local! { static IN_RUST: Cell<bool> = const { Cell::new(false) }; }
+
+/// A panic of the Rust is an answer of its own, and isn't reported; any other is.
+pub fn quiet_in_rust() {
+    let report = std::panic::take_hook();
+    std::panic::set_hook(Box::new(move |p| if !IN_RUST.get() { report(p) }));
+}
+
 fn rust(drive: Drive, c: &chunk::Chunk) -> Answer {
-    std::panic::catch_unwind(|| drive(&c.locals, c.varargs, &c.formulas)).unwrap_or_else(|_| Err("panic".into()))
+    IN_RUST.set(true);
+    let answer = std::panic::catch_unwind(|| drive(&c.locals, c.varargs, &c.formulas)).unwrap_or_else(|_| Err("panic".into()));
+    IN_RUST.set(false);
+    answer
 }
 
 fn zeros<T: PartialEq + Default>(s: &[T]) -> bool { let z = T::default(); s.iter().all(|x| *x == z) }
@@ -87,7 +101,8 @@ fn one(bytes: &[u8], b: &mut Buffers, t: &mut Tally, r: &mut Rng, small: bool) -
     if got == 0 { t.accepted += 1 } else { *t.refused.get_mut(got as usize).ok_or("a number above 13")? += 1 }
     if got != 0 && !all_zeros(b, &large) { return Err(format!("refused {got}, but not all zeros")); }
     let formed = match formed {
-        Err(k) => return if got == k { Ok(()) } else { Err(format!("the form says {k}, ours {got}")) },
+        Err(k) if got == k => return if small { refused_early(bytes, b, t, &NONE, k) } else { Ok(()) },
+        Err(k) => return Err(format!("the form says {k}, ours {got}")),
         Ok(f) => f,
     };
     if (1..=9).contains(&got) { return Err(format!("the form is good, ours says {got}")); }
@@ -98,7 +113,7 @@ fn one(bytes: &[u8], b: &mut Buffers, t: &mut Tally, r: &mut Rng, small: bool) -
         let with = rust(codegen_differences::drive::drive, &c);
         let unchanged = rust(codegen::drive::drive, &c);
         let same = with == unchanged;
-        if !same { t.differ += 1 }
+        if unchanged.as_ref().is_err_and(|e| e == "panic") { t.panics += 1 } else if !same { t.differ += 1 }
         if with.is_err() && unchanged.is_ok() { t.dropped += 1 }
         match with {
             Ok(o) if o.code.len() > 131_071 => return if got == 13 { Ok(()) } else { Err(format!("more than 131,071 words, ours says {got}")) },
@@ -111,9 +126,11 @@ fn one(bytes: &[u8], b: &mut Buffers, t: &mut Tally, r: &mut Rng, small: bool) -
             }
             Err(e) => {
                 let want = match e.as_str() { "function or expression too complex" => 10, "constant table overflow" => 11, _ => 0 };
-                if want == 0 { t.panics += 1; return Err(format!("the Rust with the differences: {e}; ours says {got}")); }
-                if same && got == want { t.equal_unchanged += 1 }
-                return if got == want { Ok(()) } else { Err(format!("the Rust says {e}, ours {got}")) };
+                if want == 0 { return Err(format!("the Rust with the differences: {e}; ours says {got}")); }
+                if got != want { return Err(format!("the Rust says {e}, ours {got}")); }
+                if same { t.equal_unchanged += 1 }
+                // 9 comes before 10 and 11
+                return if small && nodes > 0 { refused_early(bytes, b, t, &Sizes { scratch: nodes - 1, ..large }, 9) } else { Ok(()) };
             }
         }
     } else {
@@ -125,6 +142,17 @@ fn one(bytes: &[u8], b: &mut Buffers, t: &mut Tally, r: &mut Rng, small: bool) -
         o
     };
     if small { smaller(bytes, b, t, r, &ours, &formed.places)? }
+    Ok(())
+}
+
+const NONE: Sizes = Sizes { code: 0, lines: 0, kinds: 0, values: 0, pool: 0, scratch: 0, counts: 0 };
+
+/// A refusal that comes before the buffers' own.
+fn refused_early(bytes: &[u8], b: &mut Buffers, t: &mut Tally, z: &Sizes, want: u32) -> Result<(), String> {
+    let got = b.lower_garbage(bytes, z)?;
+    if got != want { return Err(format!("{z:?}: {want} is due, ours says {got}")); }
+    if !all_zeros(b, z) { return Err(format!("{z:?}: refused {got}, but not all zeros")); }
+    t.short[got as usize] += 1;
     Ok(())
 }
 
@@ -156,22 +184,29 @@ fn smaller(bytes: &[u8], b: &mut Buffers, t: &mut Tally, r: &mut Rng, o: &Out, p
         let got = b.lower_garbage(bytes, &z)?;
         if got != 11 && got != 13 { return Err(format!("{z:?}: 11 or 13 is due, ours says {got}")); }
         if !all_zeros(b, &z) { return Err(format!("{z:?}: refused {got}, but not all zeros")); }
-        t.short[got as usize] += 1;
+        t.either += 1;
     }
-    for (z, want) in tries {
-        let got = b.lower_garbage(bytes, &z)?;
-        if got != want { return Err(format!("{z:?}: {want} is due, ours says {got}")); }
-        if !all_zeros(b, &z) { return Err(format!("{z:?}: refused {got}, but not all zeros")); }
-        t.short[got as usize] += 1;
-    }
+    for (z, want) in tries { refused_early(bytes, b, t, &z, want)? }
     Ok(())
 }
 
-fn buffers() -> Buffers { Buffers::new(&Sizes { code: 0, lines: 0, kinds: 0, values: 0, pool: 0, scratch: 0, counts: 0 }) }
+fn buffers() -> Buffers { Buffers::new(&NONE) }
 
 fn report(bytes: &[u8], what: &str, of: &str) {
     let h = if bytes.len() <= 20_000 { hex(bytes) } else { format!("{} bytes", bytes.len()) };
     println!("MISMATCH {of}: {what}: {h}");
+}
+
+/// What issue 6 asks for at least, of a whole run.
+fn enough(sum: &Tally, met: [u64; 4]) -> Vec<String> {
+    let mut few = Vec::new();
+    let mut least = |what: &str, n: u64, want: u64| if n < want { few.push(format!("{what}: {n}, fewer than {want}")) };
+    least("chunks", sum.chunks, 1_000_000);
+    least("accepted", sum.accepted, 300_000);
+    least("with 250 to 260 constants", sum.near_constants, 10_000);
+    for k in 1..14 { least(&format!("refused {k}"), sum.refused[k] + sum.short[k], 1000) }
+    for (i, n) in met.into_iter().enumerate() { least(&format!("meeting difference {}", i + 1), n, 1000) }
+    few
 }
 
 /// `share`: of each generator's chunks one in so many.
@@ -185,27 +220,31 @@ pub fn run(share: u64) -> i32 {
         let mut bytes = Vec::new();
         let mut r = Rng::new(k as u64 + 1);
         for i in 0..kind.chunks.div_ceil(share) {
-            make(k, i, &mut bytes);
+            make(k, i * share, &mut bytes);
             let mut h = DefaultHasher::new();
             bytes.hash(&mut h);
             seen.insert(h.finish());
             let small = i % 8 == 0 || kind.chunks < 100;
             if let Err(e) = one(&bytes, &mut b, &mut t, &mut r, small) {
                 t.mismatches += 1;
-                if t.mismatches <= 5 { report(&bytes, &e, &format!("{} {i}", kind.name)) }
+                if t.mismatches <= 5 { report(&bytes, &e, &format!("{} {}", kind.name, i * share)) }
             }
         }
         eprintln!("{} done, {} s", kind.name, begun.elapsed().as_secs());
         all.push(t);
     }
-    tables(&all, seen.len());
+    let mut sum = Tally::default();
+    for t in &all { sum.add(t) }
+    let of = |n: &str| &all[KINDS.iter().position(|k| k.name == n).unwrap()];
+    let met = [of("logic").differ, of("constants").differ, of("power").differ, of("dropped").dropped];
+    tables(&all, &sum, seen.len(), met);
     println!("\nTime: {} s.", begun.elapsed().as_secs());
-    i32::from(all.iter().any(|t| t.mismatches > 0))
+    let few = if share == 1 { enough(&sum, met) } else { Vec::new() };
+    for f in &few { println!("TOO FEW {f}") }
+    i32::from(sum.mismatches > 0 || !few.is_empty())
 }
 
-fn tables(all: &[Tally], different: usize) {
-    let mut sum = Tally::default();
-    for t in all { sum.add(t) }
+fn tables(all: &[Tally], sum: &Tally, different: usize, met: [u64; 4]) {
     println!("| what | number |\n|---|---|");
     println!("| chunks | {} |", sum.chunks);
     println!("| of them different from all before (by a hash of 64 bits) | {different} |");
@@ -217,21 +256,19 @@ fn tables(all: &[Tally], different: usize) {
     println!("| not comparable: names that aren't UTF-8 | {} |", sum.not_utf8);
     println!("| not comparable: form refused (1 to 8), checked against a form check of the harness | {} |", sum.refused[1..9].iter().sum::<u64>());
     println!("| calls with buffers exactly large enough, same result | {} |", sum.exact);
-    println!("| calls with a buffer too small, refusal as due | {} |", sum.short.iter().sum::<u64>());
+    println!("| the unchanged Rust panics | {} |", sum.panics);
+    println!("| further calls with a buffer too small, or none, refusal as due | {} |", sum.short.iter().sum::<u64>());
+    println!("| calls with code and constants both too small, 11 or 13 | {} |", sum.either);
     println!("| mismatches | {} |", sum.mismatches);
     println!("\n| refusal | {} |\n|---|{}", (1..14).map(|i| i.to_string()).collect::<Vec<_>>().join(" | "), "---|".repeat(13));
     println!("| chunks, buffers large enough | {} |", sum.refused[1..].iter().map(u64::to_string).collect::<Vec<_>>().join(" | "));
-    println!("| calls with a buffer too small | {} |", sum.short[1..].iter().map(u64::to_string).collect::<Vec<_>>().join(" | "));
+    println!("| further calls with a buffer too small, or none | {} |", sum.short[1..].iter().map(u64::to_string).collect::<Vec<_>>().join(" | "));
     println!("\n| generator | what | chunks | accepted | refused | variants differ | Rust drops an error | equal to unchanged | 250 to 260 constants | mismatches |\n|---|---|---|---|---|---|---|---|---|---|");
     for (t, k) in all.iter().zip(KINDS) {
         println!("| {} | {} | {} | {} | {} | {} | {} | {} | {} | {} |", k.name, k.about, t.chunks, t.accepted, t.refused.iter().sum::<u64>(), t.differ, t.dropped, t.equal_unchanged, t.near_constants, t.mismatches);
     }
-    let of = |n: &str| &all[KINDS.iter().position(|k| k.name == n).unwrap()];
     println!("\n| difference | chunks that meet it with effect | generator |\n|---|---|---|");
-    println!("| 1 | {} | logic |", of("logic").differ);
-    println!("| 2 | {} | constants |", of("constants").differ);
-    println!("| 3 | {} | power |", of("power").differ);
-    println!("| 4 | {} | dropped (the Rust with the differences refuses, the unchanged one goes on) |", of("dropped").dropped);
+    for (i, of) in ["logic", "constants", "power", "dropped (the Rust with the differences refuses, the unchanged one goes on)"].iter().enumerate() { println!("| {} | {} | {of} |", i + 1, met[i]) }
 }
 
 /// The chunks of a file with lines `hex CHUNK`, or chunks given in hex.
@@ -241,5 +278,15 @@ pub fn listed(chunks: &[Vec<u8>]) -> i32 {
         if let Err(e) = one(c, &mut b, &mut t, &mut r, true) { t.mismatches += 1; report(c, &e, "listed") }
     }
     println!("chunks {} accepted {} equal to unchanged {} variants differ {} exact {} mismatches {}", t.chunks, t.accepted, t.equal_unchanged, t.differ, t.exact, t.mismatches);
-    i32::from(t.mismatches > 0)
+    if chunks.is_empty() { println!("NO CHUNKS") }
+    i32::from(t.mismatches > 0 || chunks.is_empty())
+}
+
+/// The unchanged Rust's pool of each chunk, in hex: what the program vectors_test is to print of it.
+pub fn pools(chunks: &[Vec<u8>]) -> i32 {
+    for c in chunks {
+        let Some(tree) = chunk::read(c) else { println!("unreadable"); continue };
+        match rust(codegen::drive::drive, &tree) { Ok(o) => println!("{}", hex(&o.pool)), Err(e) => println!("error {e}") }
+    }
+    i32::from(chunks.is_empty())
 }

@@ -222,7 +222,7 @@ fn noise(r: &mut Rng) -> Vec<u8> {
     b
 }
 
-/// Longer than 1,048,576 bytes: a large chunk, else as good, with bytes changed; it is refused before they are read.
+/// Longer than 1,048,576 bytes: what the last one was, with bytes changed. It is refused for its length before they are read.
 fn too_long(r: &mut Rng, large: &mut Vec<u8>) {
     let n = large.len();
     for _ in 0..8 { let i = r.below(n); large[i] = r.next() as u8; }
@@ -238,12 +238,46 @@ fn comparisons(w: &mut Writer, n: usize) {
     comparisons(w, n - 1 - (n - 1) / 2)
 }
 
-/// Code near 131,071 words: a tree of comparisons, and up to 8 words more.
+/// Code near 131,071 words: a tree of comparisons, and up to 11 words more.
 fn long_code(i: u64) -> Vec<u8> {
     let more = (i % 12) as usize;
     let mut w = Writer::new(&[], false, 1 + more as u8);
     comparisons(&mut w, 32_760 + (i / 12) as usize);
     for _ in 0..more { w.name(b"g") }
+    w.bytes
+}
+
+/// A tree of and, or with n leaves, nearly balanced: long lists of pending jumps.
+fn logic_tree(w: &mut Writer, r: &mut Rng, n: usize) {
+    if n > 1 {
+        w.binary([AND, OR][r.below(2)]);
+        let left = n / 2 + r.below(n / 4 + 1);
+        logic_tree(w, r, left.min(n - 1));
+        return logic_tree(w, r, n - left.min(n - 1));
+    }
+    match r.below(6) {
+        0 => w.truth(r.one_in(2)),
+        1 => { w.unary(NOT); w.name(b"a") }
+        2 => { w.binary(LT); w.name(b"a"); w.name(b"b") }
+        3 => w.double(1.5),
+        _ => w.name(NAMES[r.below(4)]),
+    }
+}
+
+/// Jumps over long code, long lists of pending jumps, or constants far beyond 256 before the last formulas.
+fn long_lists(r: &mut Rng) -> Vec<u8> {
+    let mut w = Writer::new(&[], false, 2);
+    match r.below(3) {
+        0 => {
+            w.binary([AND, OR][r.below(2)]);
+            w.name(b"a");
+            let n = r.between(1, 32_000);
+            comparisons(&mut w, n);
+        }
+        1 => { let n = r.between(2, 20_000); logic_tree(&mut w, r, n) }
+        _ => { let k = r.between(258, 3000); constants(&mut w, r, 0, k, false) }
+    }
+    expression(&mut w, r, &FAR_LOGICAL, 6, false);
     w.bytes
 }
 
@@ -281,6 +315,7 @@ pub const KINDS: &[Kind] = &[
     Kind { name: "too-long", chunks: 1_200, about: "more than 1,048,576 bytes" },
     Kind { name: "long-bytes", chunks: 24, about: "1,048,559 to 1,048,576 bytes" },
     Kind { name: "long-code", chunks: 96, about: "code near 131,071 words" },
+    Kind { name: "long-lists", chunks: 800, about: "jumps over up to 128,000 words, and, or of up to 20,000 operands, 258 to 3,000 constants before the last formula" },
 ];
 
 /// The i-th chunk of a generator, into `b`.
@@ -304,7 +339,8 @@ pub fn make(kind: usize, i: u64, b: &mut Vec<u8>) {
         "noise" => noise(r),
         "too-long" => { if b.len() < 1_048_577 { b.resize(1_048_577, 0) } return too_long(r, b); }
         "long-bytes" => long_bytes(r),
-        _ => long_code(i),
+        "long-code" => long_code(i),
+        _ => long_lists(r),
     };
     *b = made;
 }

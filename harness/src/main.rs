@@ -10,26 +10,33 @@ mod ours;
 
 fn unhex(s: &str) -> Vec<u8> {
     let d: Vec<u8> = s.chars().filter(|c| !c.is_whitespace()).map(|c| c.to_digit(16).expect("hex") as u8).collect();
+    assert!(d.len() % 2 == 0, "hex: an odd number of digits");
     d.chunks(2).map(|p| p[0] * 16 + p[1]).collect()
+}
+
+/// The chunks of a file with lines `hex CHUNK`.
+fn chunks_of(file: &str) -> Vec<Vec<u8>> {
+    std::fs::read_to_string(file).unwrap_or_else(|e| panic!("{file}: {e}")).lines().filter_map(|l| l.strip_prefix("hex ")).map(unhex).collect()
 }
 
 fn run() -> i32 {
     let args: Vec<String> = std::env::args().skip(1).collect();
     match args.iter().map(String::as_str).collect::<Vec<_>>()[..] {
-        ["bench"] => { bench::run(None); 0 }
-        ["bench", only] => { bench::run(Some(only)); 0 }
+        ["bench"] => bench::run(None),
+        ["bench", only] => bench::run(Some(only)),
         ["clearing"] => { bench::clearing(); 0 }
         ["profile", who, nodes, shape, constants, times] => { bench::profile(nodes.parse().unwrap(), shape == "deep", constants.parse().unwrap(), who == "rust", times.parse().unwrap()); 0 }
         ["compare"] => compare::run(1),
         ["compare", share] => compare::run(share.parse().unwrap()),
-        ["list", file] => compare::listed(&std::fs::read_to_string(file).unwrap().lines().filter_map(|l| l.strip_prefix("hex ")).map(unhex).collect::<Vec<_>>()),
+        ["list", file] => compare::listed(&chunks_of(file)),
+        ["pools", file] => compare::pools(&chunks_of(file)),
         ["chunk", hex] => compare::listed(&[unhex(hex)]),
-        _ => { eprintln!("harness bench [NODES-SHAPE-CONSTANTS] | clearing | profile ours|rust NODES SHAPE CONSTANTS TIMES | compare [SHARE] | list FILE | chunk HEX"); 2 }
+        _ => { eprintln!("harness bench [NODES-SHAPE-CONSTANTS] | clearing | profile ours|rust NODES SHAPE CONSTANTS TIMES | compare [SHARE] | list FILE | pools FILE | chunk HEX"); 2 }
     }
 }
 
 fn main() {
-    std::panic::set_hook(Box::new(|_| {}));
+    compare::quiet_in_rust();
     let h = std::thread::Builder::new().stack_size(256 << 20).spawn(run).unwrap();
     std::process::exit(h.join().unwrap_or(101));
 }
