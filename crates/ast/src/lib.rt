@@ -128,6 +128,7 @@ pub enum Many {
     Call,
 }
 
+// What a node is, by how many sub-expressions it has; beside `Many` stands the number of arguments.
 pub enum Head {
     Leaf(Leaf),
     One(One),
@@ -135,6 +136,7 @@ pub enum Head {
     Many(Many, u8),
 }
 
+// A node without its sub-expressions: `next` is the place behind its own fields, where the first of them stands.
 pub struct Node {
     pub head: Head,
     pub line: u32,

@@ -1,4 +1,4 @@
--- The laws of `pad`: its length and entries, and a list and then zeros after a store, several stores, or a number taken back.
+-- The laws of `pad`: its length, and a list and then zeros after a store, several stores, or a number taken back.
 -- Each holds by the definition of `pad`, along the room and the list. Assumes nothing.
 use Prim.Native.Nat.{ℕ, zero, suc, _-_, _≤_}
 use mathlib.Core.List.{List, [], _∷_, _++_, append-nil, append-assoc}

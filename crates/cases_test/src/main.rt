@@ -139,7 +139,7 @@ fn print_word(code: &[u32], i: usize) {
     }
 }
 
-// The kind and the value, in hex.
+// The kind, and the value in hex.
 fn print_constant(kinds: &[u8], values: &[u64], i: usize) {
     if i < kinds.len() {
         if i < values.len() {

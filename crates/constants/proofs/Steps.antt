@@ -21,10 +21,10 @@ use Rattle.constants.specs.declared.Found.{Found}
 use Rattle.constants.specs.declared.Found.the-variants.{At, Nothing}
 use Rattle.constants.specs.declared.Added.{Added}
 use Rattle.constants.specs.declared.Added.the-variants as Added-variants
-use Rattle.constants.specs.Entry.{Constant, truth, constantOf, entryOf, isConstant, same, holds}
+use Rattle.constants.specs.Entry.{Constant, truth, constantOf, entryOf, isConstant, same, holds, kind-of}
 use Rattle.constants.specs.Fours.{fourOf, FourBytes, inFour, Without}
 use Rattle.constants.specs.Table.{find, later, stored, storedText, append, out}
-use Rattle.constants.specs.Laws.{find-hit, find-miss, find-at, other-kind, kindOf}
+use Rattle.constants.specs.Laws.{find-hit, find-miss, find-at, other-kind}
 
 -- ---- bytes compared
 
@@ -63,16 +63,16 @@ tails-four a b k h g e (x, y, z, w) (x′, y′, z′, w′) q =
 
 module _ (pool chunk : List ℕ) (v : Val) where
   -- an entry that is a constant is of its kind, and then its value decides
-  pub holds-kind : (c : Constant) → constantOf chunk v ≡ c → (k w : ℕ) → holds pool chunk v k w ≡ (isConstant (entryOf pool (kindOf c) w) c && eqb k (kindOf c))
+  pub holds-kind : (c : Constant) → constantOf chunk v ≡ c → (k w : ℕ) → holds pool chunk v k w ≡ (isConstant (entryOf pool (kind-of c) w) c && eqb k (kind-of c))
   unfolding holds
-  holds-kind c e k w = rw e (by (eqb k (kindOf c)) refl)
+  holds-kind c e k w = rw e (by (eqb k (kind-of c)) refl)
     where
-      by : (t : Bool) → eqb k (kindOf c) ≡ t → isConstant (entryOf pool k w) c ≡ (isConstant (entryOf pool (kindOf c) w) c && eqb k (kindOf c))
-      by true q = rw (q, and-true, eqb-true k (kindOf c) q)
-      by false q = rw (q, and-false) (other-kind pool k w c (eqb-false k (kindOf c) q))
+      by : (t : Bool) → eqb k (kind-of c) ≡ t → isConstant (entryOf pool k w) c ≡ (isConstant (entryOf pool (kind-of c) w) c && eqb k (kind-of c))
+      by true q = rw (q, and-true, eqb-true k (kind-of c) q)
+      by false q = rw (q, and-false) (other-kind pool k w c (eqb-false k (kind-of c) q))
 
   -- a truth value is its kind alone
-  pub holds-truth : (b : Bool) {t : ℕ} → constantOf chunk v ≡ truth b → kindOf (truth b) ≡ t → (k w : ℕ) → holds pool chunk v k w ≡ eqb k t
+  pub holds-truth : (b : Bool) {t : ℕ} → constantOf chunk v ≡ truth b → kind-of (truth b) ≡ t → (k w : ℕ) → holds pool chunk v k w ≡ eqb k t
   unfolding entryOf same
   holds-truth true e q k w = holds-kind (truth true) e k w ∙ ap (eqb k) q
   holds-truth false e q k w = holds-kind (truth false) e k w ∙ ap (eqb k) q
@@ -154,7 +154,7 @@ part-outside s i j m n h g = rw (drop-of-length-le s h, drop-of-length-le s g) (
 
 -- ---- a constant added: each law's hypotheses are in the code's order
 
-pub append-truth : (chunk : List ℕ) (t : Table) (b : Bool) (ks ws pool : List ℕ) → append chunk t (Truth b) ks ws pool ≡ stored t (kindOf (truth b)) 0 0 ks ws pool
+pub append-truth : (chunk : List ℕ) (t : Table) (b : Bool) (ks ws pool : List ℕ) → append chunk t (Truth b) ks ws pool ≡ stored t (kind-of (truth b)) 0 0 ks ws pool
 unfolding append
 append-truth chunk t true ks ws pool = refl
 append-truth chunk t false ks ws pool = refl

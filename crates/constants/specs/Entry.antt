@@ -35,6 +35,14 @@ entryOf pool (suc (suc (suc zero))) w = some (number w)
 entryOf pool (suc (suc (suc (suc zero)))) w = some (text (part pool (w / 65536) (w % 65536)))
 entryOf pool (suc (suc (suc (suc (suc k))))) w = none
 
+-- the kind of a constant's entry
+abbrev pub kind-of : Constant → ℕ
+kind-of nil = 0
+kind-of (truth false) = 1
+kind-of (truth true) = 2
+kind-of (number b) = 3
+kind-of (text l) = 4
+
 -- the constant of entry i
 abbrev pub constantAt : List ℕ → List ℕ → List ℕ → ℕ → Option Constant
 constantAt pool ks ws i = entryOf pool (getD ks i 0) (getD ws i 0)
@@ -72,7 +80,7 @@ same (text a) nil = false
 same (text a) (truth b) = false
 same (text a) (number b) = false
 
--- whether an entry is a constant
+-- whether what an entry stands for, if anything, is the constant c
 abbrev pub isConstant : Option Constant → Constant → Bool
 isConstant none c = false
 isConstant (some d) c = same d c

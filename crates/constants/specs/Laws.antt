@@ -1,4 +1,4 @@
--- The laws of the tests and of the search: `same` is true of equal constants and of no others, an entry that holds a constant is that constant, and a search finds an entry that meets its test, or none does.
+-- The laws of the tests and of the search: `same` is true of equal constants and of no others, an entry that holds a constant is that constant, and a search finds an entry that meets its test, or none does; and what adding answers.
 -- Each holds by its definition, case by case. Assumes nothing.
 use mathlib.Core.Path.{_≡_, refl, sym, ap, _∙_, subst}
 use mathlib.Core.Bool.{Bool, true, false, false≢true}
@@ -21,7 +21,7 @@ use Rattle.refusals.specs.declared.Refusal.the-variants.{Constants}
 use Rattle.constants.specs.declared.Found.{Found}
 use Rattle.constants.specs.declared.Found.the-variants.{At, Nothing}
 use Rattle.instructions.specs.Limits.{maxConstants}
-use Rattle.constants.specs.Entry.{Constant, nil, truth, number, text, constantOf, entryOf, part, sameBytes, sameTruth, same, isConstant, holds}
+use Rattle.constants.specs.Entry.{Constant, nil, truth, number, text, kind-of, constantOf, entryOf, part, sameBytes, sameTruth, same, isConstant, holds}
 use Rattle.constants.specs.Table.{find, later, full, Out, out, storedText, append, added}
 
 unless-true : (t : Bool) → (t ≡ true → ⊥) → t ≡ false
@@ -103,17 +103,9 @@ isConstant-true : (o : Option Constant) (c : Constant) → isConstant o c ≡ tr
 isConstant-true none c h = absurd (false≢true h)
 isConstant-true (some d) c h = ap some (same-true d c h)
 
--- the kind of a constant's entry
-abbrev pub kindOf : Constant → ℕ
-kindOf nil = 0
-kindOf (truth false) = 1
-kindOf (truth true) = 2
-kindOf (number b) = 3
-kindOf (text l) = 4
-
 abbrev isOfKind : ℕ → Option Constant → Type 0
 isOfKind k none = Unit {0}
-isOfKind k (some c) = k ≡ kindOf c
+isOfKind k (some c) = k ≡ kind-of c
 
 of-kind : (pool : List ℕ) (k w : ℕ) → isOfKind k (entryOf pool k w)
 unfolding entryOf
@@ -125,11 +117,11 @@ of-kind pool (suc (suc (suc (suc zero)))) w = refl
 of-kind pool (suc (suc (suc (suc (suc k))))) w = tt
 
 module _ (pool : List ℕ) (k w : ℕ) (c : Constant) where
-  pub entry-kind : entryOf pool k w ≡ some c → k ≡ kindOf c
+  pub entry-kind : entryOf pool k w ≡ some c → k ≡ kind-of c
   entry-kind e = subst (isOfKind k) e (of-kind pool k w)
 
   -- an entry of another kind isn't this constant
-  pub other-kind : (k ≡ kindOf c → ⊥) → isConstant (entryOf pool k w) c ≡ false
+  pub other-kind : (k ≡ kind-of c → ⊥) → isConstant (entryOf pool k w) c ≡ false
   other-kind n = unless-true _ (λ e. n (entry-kind (isConstant-true (entryOf pool k w) c e)))
 
 module _ (pool chunk : List ℕ) (v : Val) (k w : ℕ) where

@@ -7,9 +7,8 @@ ghost use lib.ListN.{length};
 ghost use lib.Seq.{sets};
 ghost use lib.Dec.{eqb, leb};
 ghost use Rattle.instructions.specs.Limits.{maxConstants};
-ghost use Rattle.constants.specs.Entry.{truth, number, constantOf, part as partOf, sameBytes, holds};
+ghost use Rattle.constants.specs.Entry.{truth, number, constantOf, kind-of, part as partOf, sameBytes, holds};
 ghost use Rattle.constants.specs.Fours.{fourOf, FourBytes, inFour, Without};
-ghost use Rattle.constants.specs.Laws.{kindOf};
 ghost use Rattle.constants.specs.Table.{find as findIn, stored, storedText, append as appended, added, out};
 use instructions::MAX_CONSTANTS;
 use refusals::Refusal;
@@ -96,7 +95,7 @@ pub fn same_bytes(a: &[u8], b: &[u8]) -> bool
 
 // The kind of a truth value's entry.
 fn truth_kind(b: bool) -> u8
-    ensures { λ r. ⌜ kindOf (truth b) ≡ r ⌝ }
+    ensures { λ r. ⌜ kind-of (truth b) ≡ r ⌝ }
 {
     if b { 2 } else { 1 }
 }
@@ -139,7 +138,7 @@ fn in_four(values: &[u64], at: usize, bits: u64) -> bool
     values[at + 3] == bits
 }
 
-// Past fours of the first `n` values that don't have this one: how many is left free, none that has it is passed.
+// A place before which none of the values is this one, found four by four; how far on it lies the contract leaves free.
 fn past_fours(values: &[u64], n: usize, bits: u64) -> usize
     requires { ⌜ n ≤ length (now values) ⌝ }
     ensures { λ r. ⌜ Without (now (values .entry)) r bits ⌝ }

@@ -429,7 +429,7 @@ fn settle(code: &mut [u32], lines: &mut [u32], st: State, e: ExprContext, reg: u
     Stepped::Done(get_label(st))
 }
 
-// A comparison's own jump joins the list of those that are true.
+// A comparison's own jump joins the true list.
 fn join_jump(code: &mut [u32], e: ExprContext) -> ExprContext
     ensures { λ r. ⌜ ((s : State) (ls ks vs p : List ℕ) → join-jump e s (bufs (now (code .entry)) ls ks vs p) ≡ done r s (bufs (now (code .exit)) ls ks vs p)) ⌝ }
 {
@@ -646,7 +646,7 @@ fn any_spot(st: State, e: ExprContext) -> Spot
     next_spot(st, e)
 }
 
-// Whether a value is what is wanted.
+// Whether a value is left as it is: always for `Value`, for `Val` where it has no jumps.
 fn plain(e: ExprContext, want: Want) -> bool
     ensures { λ r. ⌜ is-plain want e ≡ r ⌝ }
 {
@@ -1065,6 +1065,7 @@ pub fn discharge2anyreg(
     }
 }
 
+// Where the Rust calls this one, `bring` does it inside; of the lowering's own steps none calls it.
 pub fn exp2reg(
     code: &mut [u32],
     lines: &mut [u32],

@@ -30,7 +30,7 @@ use refusals::Refusal;
 
 // ---- the state with another field
 
-// The table is built anew, number by number: of one that is copied whole the machine would wait for both.
+// Below, the table is built anew, number by number: as a copied struct it would be read back in one piece, for which the machine waits.
 pub fn with_pc(st: State, pc: usize) -> State
     ensures { λ r. ⌜ with-pc pc st ≡ r ⌝ }
 {

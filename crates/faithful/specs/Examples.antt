@@ -41,8 +41,7 @@ use Rattle.model.specs.Rows.{nils, p5-chunk as p5}
 use Rattle.model.specs.Values.{Value, truth, World}
 use Rattle.model.specs.Reading.{reading, read-leaf, read-one, read-binary, read-two, read-expr, read-formulas}
 use Rattle.model.specs.Running.{returned, run}
-use Rattle.simulation.specs.Texts.{Bytes}
-use Rattle.model.specs.Claims.{program, Runs-as-read}
+use Rattle.model.specs.Claims.{program, Runs-as-read, Bytes}
 use Rattle.faithful.specs.Faithful.{faithful}
 
 -- whether each entry is a byte

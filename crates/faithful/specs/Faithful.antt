@@ -20,7 +20,7 @@ use Rattle.model.specs.Reading.{reading}
 use Rattle.model.specs.Running.{returned, run}
 use Rattle.model.specs.Jumps.{word}
 use Rattle.model.specs.Steps.{Buffers, Result}
-use Rattle.model.specs.Claims.{program, Runs-as-read}
+use Rattle.model.specs.Claims.{program, Runs-as-read, Bytes}
 use Rattle.model.specs.Lowering.{Sizes, cleared, start, lower-chunk, Out, refusal-of, ended, lowered, counts-of}
 use Rattle.labelled.specs.Code.{size}
 use Rattle.labelled.specs.Machine.{span}
@@ -31,7 +31,6 @@ use Rattle.labelled.specs.Whole.{whole}
 use Rattle.threads.specs.Encoding.{enc-agree}
 use Rattle.threads.specs.Holding.{Ends, gives, refuses}
 use Rattle.threads.specs.Coded.{coded}
-use Rattle.simulation.specs.Texts.{Bytes}
 use Rattle.simulation.specs.Whole.{Lowers-to, count-is, whole-lowered}
 use Rattle.running.specs.Run.{ran}
 use Rattle.faithful.specs.Counted.{take-entry, counted}

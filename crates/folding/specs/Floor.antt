@@ -1,4 +1,4 @@
--- The floor of a double, exactly: the largest whole number that is not above x. Infinities, NaN and whole numbers, -0 among them, are themselves.
+-- The floor of a double, exactly (`f64::floor` of the Rust's `const_fold`): the largest whole number that is not above x. Infinities, NaN and whole numbers, -0 among them, are themselves.
 -- A double with a fraction is m / 2 ^ (k + 1) with m below 2 ^ 53, so its floor is a whole number that `ofInt` holds exactly (`floor-exact` and `floor-exact-below` of proofs/Whole.antt).
 -- Assumes nothing.
 use Prim.Native.Nat.{ℕ, suc, _+_, _-_, _/_, _^_}

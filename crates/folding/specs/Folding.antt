@@ -1,4 +1,4 @@
--- Document 01, "Folding": + - * / % and negation of numerals; not on a divisor of zero of either sign in / and %, nor to a NaN. ^ isn't folded (difference 3).
+-- Document 01, "Lowering": + - * / % and negation of numerals; not on a divisor of zero of either sign in / and %, nor to a NaN. ^ isn't folded (difference 3).
 -- Assumes nothing.
 use mathlib.Core.Bool.{Bool, true, false}
 use lib.IntN.{pos}
@@ -18,10 +18,12 @@ modulo a b = sub binary64 a (mul binary64 (floor (div binary64 a b)) b)
 abbrev pub isZero : Float → Bool
 isZero b = eq b (fin false 0 (pos 0))
 
+-- the result, unless the divisor is zero, which the truth value says
 abbrev pub onDivisor : Bool → Float → Fold
 onDivisor true x = Kept
 onDivisor false x = folded x
 
+-- `const_fold` on doubles
 unfoldable pub foldOf : Arith → Float → Float → Fold
 foldOf Add a b = folded (add binary64 a b)
 foldOf Sub a b = folded (sub binary64 a b)

@@ -15,10 +15,11 @@ numeralOf b = record { value = ofBits binary64 b; bits = b }
 abbrev pub Sound : Numeral → Type 0
 Sound n = n .value ≡ ofBits binary64 (n .bits)
 
--- a result that isn't a NaN, with its bits
+-- nothing where it is a NaN, which the truth value says
 abbrev pub unless : Bool → Float → Fold
 unless true x = Kept
 unless false x = Folded (record { value = x; bits = toBits binary64 x })
 
+-- a result that isn't a NaN, with its bits
 abbrev pub folded : Float → Fold
 folded x = unless (isNan x) x

@@ -1,4 +1,4 @@
-// Doubles: the double of a bit pattern, the floor, and the folding of arithmetic on numerals (document 01, "Folding"; rilua's `const_fold`).
+// Doubles: the double of a bit pattern, the floor, and the folding of arithmetic on numerals (document 01, "Lowering"; rilua's `const_fold`).
 ghost use mathlib.Core.Path.{_≡_};
 ghost use lib.Ieee.{binary64, nanBits};
 ghost use Rattle.folding.specs.Floor.{floor as floorOf};

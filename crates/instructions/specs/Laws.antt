@@ -1,6 +1,6 @@
 -- What a field of a number is after one was set, for any place and size; and, as instances, what a field of a word is after the word was built or another field of it was set.
 -- Which word it is after a field of a built one was set; that of a value only what fits its field counts; that words stay below 2 ^ 32; and that sBx reads back what was stored.
--- Proofs above this crate cite these; the layout itself is unfolded there only where an example is computed. Assumes nothing.
+-- Proofs above this crate cite most of these (the others complete the table of fields); the layout itself is unfolded there only where an example is computed. Assumes nothing.
 use Prim.Native.Nat.{ℕ, suc, _+_, _*_, _/_, _%_, _-_, _^_, _<_, _≤_}
 use mathlib.Core.Bool.{Bool, true, false, cond}
 use mathlib.Core.Path.{_≡_, refl, sym, ap, _∙_}
@@ -25,7 +25,7 @@ unfolding getAt setAt
 get-set-same p n x v hp hn =
     rw (digits-div (x / p / n * n + v % n) (mod-lt x hp), digits-mod (x / p / n) (mod-lt v hn))
 
--- what lies below the place p does not depend on what lies above it
+-- a field that lies whole below k * m * q does not depend on what lies above that
 low : (q m k y r : ℕ) → 0 < q → (y * (k * m * q) + r) / q % m ≡ r / q % m
 low q m k y r hq = rw (← mul-assoc y (k * m) q, mul-add-div-right hq (y * (k * m)) r, ← mul-assoc y k m, mul-add-mod-self-right (y * k) m (r / q))
 

@@ -1,5 +1,5 @@
 -- The limits of the word layout and of the machine, each beside its name of instructions.rs where it has one: sizes and place values of a word's fields, and what follows from them.
--- The definitions have these numbers from here; the code has its limits by name too (src/lib.rt), and writes the fields' sizes and place values out. Assumes nothing.
+-- The definitions have these numbers from here; the code has its limits by name too (src/lib.rt), and writes out the fields' sizes and place values, and what is added to or taken from sBx. Assumes nothing.
 use Prim.Native.Nat.{ℕ}
 
 -- SIZE_OP, SIZE_A, SIZE_B, SIZE_C as numbers of values: 6, 8, 9 and 9 bits
@@ -51,14 +51,14 @@ maxIndexRk = 255
 abbrev pub noReg : ℕ
 noReg = 255
 
--- MAXSTACK: the registers of a frame
+-- MAXSTACK: the most registers of a frame
 abbrev pub maxStack : ℕ
 maxStack = 250
 
--- MAXARG_BX + 1: the entries of a constant table
+-- MAXARG_BX + 1: the most entries of a constant table
 abbrev pub maxConstants : ℕ
 maxConstants = 262144
 
--- the words of a code, so that every jump fits sBx (document 01, refusal 13)
+-- the most words of a code, so that every jump fits sBx (document 01, refusal 13)
 abbrev pub maxWords : ℕ
 maxWords = 131071

@@ -193,7 +193,7 @@ fn retest(reg: usize, w: u32) -> u32
     i.set_a((reg % 256) as u32).raw
 }
 
-// Where a `TestSet` controls the list's first jump, `reg` takes its value; whether one does.
+// A `TestSet` that controls the list's first jump becomes what `retest` says for `reg`; whether there is one.
 pub fn patch_test_reg(code: &mut [u32], list: usize, reg: usize) -> bool
     ensures { λ r. ⌜ (keeps-value (now (code .entry)) list ≡ r) × (patch-test-reg (now (code .entry)) list reg ≡ now (code .exit)) ⌝ }
 {

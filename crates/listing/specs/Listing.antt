@@ -16,7 +16,7 @@ abbrev pub ascii : String → List ℕ
 ascii no-more = []
 ascii (c before s) = code c ∷ ascii s
 
--- a number in decimal, of at most so many digits, none of them a leading zero
+-- a number in decimal, of at most so many digits, none of them a leading zero; 48 is "0"
 unfoldable pub decimal : ℕ → ℕ → List ℕ
 decimal zero n = []
 decimal (suc most) n =
@@ -29,7 +29,7 @@ decimal (suc most) n =
 abbrev pub number : ℕ → List ℕ
 number n = decimal 20 n
 
--- the digit of a number below 16, in lower case
+-- the digit of a number below 16, in lower case: 48 is "0", 87 + 10 is "a"
 abbrev pub glyph : ℕ → ℕ
 glyph d =
     elim (ltb d 10) [

@@ -19,7 +19,7 @@ pub refused-kind : listing (answer.Refused refusal.Kind) [] [] [] [] ≡ ascii "
 unfolding decimal
 refused-kind = refl
 
--- numbers at the edges: no leading zeros in decimal, all 8 and 16 digits in hex
+-- numbers at the edges: no leading zeros in decimal, all 16 digits in hex
 pub numbers : decimal 20 0 ≡ ascii "0"
 unfolding decimal
 numbers = refl

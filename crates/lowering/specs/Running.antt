@@ -5,9 +5,8 @@ use mathlib.Core.List.{List}
 use Rattle.model.specs.declared.Lowered.{Lowered}
 use Rattle.model.specs.declared.Lowered.the-variants as answer
 use Rattle.model.specs.Steps.{Buffers}
-use Rattle.model.specs.Claims.{Runs-as-read, Padded, Faithful, Lowers}
+use Rattle.model.specs.Claims.{Runs-as-read, Padded, Faithful, Lowers, Bytes}
 use Rattle.model.specs.Lowering.{Sizes, Out, out, lowered}
-use Rattle.simulation.specs.Texts.{Bytes}
 use Rattle.faithful.specs.Faithful.{faithful}
 use Rattle.padding.specs.Padded.{padded}
 

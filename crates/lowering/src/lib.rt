@@ -41,7 +41,7 @@ fn clear_scratch(scratch: &mut [u32])
     clear_words(scratch);
 }
 
-// `Proto::new` and `FuncState::new`.
+// `Proto::new`, `FuncState::new`, the line of `Compiler::new`, and the locals as `activate_locals` counts them.
 fn start_at(h: Header) -> State
     ensures { λ r. ⌜ start (h .next) (h .locals) ≡ r ⌝ }
 {

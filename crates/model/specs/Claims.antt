@@ -21,6 +21,10 @@ use Rattle.model.specs.Running.{Program, returned, run}
 use Rattle.model.specs.Steps.{Buffers}
 use Rattle.model.specs.Lowering.{Sizes, cleared, out, lowered}
 
+-- the list holds bytes, as a slice of u8 does
+abbrev pub Bytes : List ℕ → Type 0
+Bytes s = (i : ℕ) → getD s i 0 < 256
+
 -- the lengths of these buffers and of a scratch of n numbers
 abbrev pub sizes : Buffers → ℕ → Sizes
 sizes m n = record { code = length (m .code); lines = length (m .lines); kinds = length (m .kinds); values = length (m .values); pool = length (m .pool); scratch = n }

@@ -135,7 +135,7 @@ settle e reg = do
       land e reg final final final
   ]
 
--- a comparison's own jump joins the list of those that are true
+-- a comparison's own jump joins the true list
 unfoldable pub join-jump : ExprContext → Step ExprContext
 join-jump e =
     elim (isKind Jmp e) [

@@ -36,7 +36,7 @@ pub record Sizes : Type 0 where
 abbrev pub cleared : Sizes → Buffers
 cleared z = record { code = zeros (z .code); lines = zeros (z .lines); kinds = zeros (z .kinds); values = zeros (z .values); pool = zeros (z .pool) }
 
--- `Proto::new` and `FuncState::new`: a frame of 2, no words, no constants, no label; the first node is at `at`, and the line before it is 1
+-- `Proto::new`, `FuncState::new`, `Compiler::new` (line 1) and `activate_locals` (active): a frame of 2, no words, no constants, no label; the first node is at `at`, and the line before it is 1
 abbrev pub start : ℕ → ℕ → State
 start at locals = record { at = at; line = 1; pc = 0; table = record { count = 0; used = 0 }; active = locals; free = 0; frame = 2; jpc = 0; label = 0 }
 

@@ -138,7 +138,7 @@ code-comp o cond swapped e₁ e₂ = do
 
 -- ---- before and after the right operand
 
--- an operand of arithmetic or of a comparison: numerals wait
+-- an operand of arithmetic or of a comparison: a numeral stays as it is
 unfoldable pub operand : ExprContext → Step ExprContext
 operand e = elim (is-numeral e) [ true ↦ return e | false ↦ exp2rk e ]
 

@@ -1,4 +1,4 @@
--- Reading the formulas by the manual, section 2.5 and those named below (document 01, "The reading"). Its only state is the steps taken. Assumes nothing.
+-- Reading the formulas by the manual, section 2.5 and those named below (document 01, "Running and reading"). Its only state is the steps taken. Assumes nothing.
 use Prim.Native.Nat.{ℕ}
 use mathlib.Core.List.{List, [], _∷_}
 use mathlib.Core.Bool.{true, false, not}
@@ -114,7 +114,7 @@ module _ (w : World) (chunk : List ℕ) (names : List Text) (locals varargs : Li
   read-two (two.Binary o) x y = read-binary o x y
   read-two two.Index x y = both x y λ a b. ask w index-read (a ∷ b ∷ [])
 
-  -- the function or object, then the arguments, then the call (2.5.8); a method's object stands before the arguments
+  -- the function, or the object and what it has under the method's name; then the arguments; then the call (2.5.8), with a method's object before the arguments
   unfoldable pub read-many : Many → Read Value → Read (List Value) → Read (List Value)
   read-many many.Call x args = do
     f ← x

@@ -1,4 +1,4 @@
--- Worked examples, computed with the buffers that `weavelist` lends: P1 to P12 of document 01, and further chunks. Assumes nothing.
+-- Worked examples, computed with the buffers that `weavelist` lends: P1 to P12 of document 01, and further chunks; and chunks with shorter buffers. Assumes nothing.
 use Prim.Native.Nat.{ℕ, zero, suc}
 use mathlib.Core.Path.{_≡_, refl}
 use mathlib.Core.List.{List, [], _∷_, map}
@@ -25,7 +25,7 @@ use Rattle.model.specs.Expressions.{search-local, set-multret, above, em
 use Rattle.model.specs.Jumps.{jump-list, get-jump-target, patch-jump, last-jump, linked, get-jump-control, need-value, retest, patch-test-reg, remove-values, patch-list-aux}
 use Rattle.model.specs.Operators.{free-in-turn, free-both, emit-arith, code-arith, code-unary, code-concat, far-numeral, compare-operands, emit-comp, code-comp, operand, before-right, code-and, code-or, join-concat, after-right, code-unop}
 use Rattle.model.specs.Reading.{local-named, read-leaf, read-one, read-binary, read-two, read-many, read-formulas, read-expr, read-args}
-use Rattle.model.specs.Running.{regs, puts, joined, carry, run-from}
+use Rattle.model.specs.Running.{regs, puts, joined, execute, run-from}
 use Rattle.model.specs.Steps.{andThen, Buffers}
 use Rattle.model.specs.Values.{compute, negation, number, text}
 use lib.Ieee.{span, climb, size, odd, units, round, neg, sum, add, sub, mul, div, lt, eq, le, ne, ofInt, ofFields, ofBits, nanBits, toBits, isNan}
@@ -100,7 +100,7 @@ rows =
     []
 
 p-rows : found (map (λ r. r .chunk) rows) ≡ map (λ r. r .answer) rows
-unfolding pad getAt setAt opCodeOf sbxOf excess abcOf aBxOf floor foldOf entryOf sameBytes same holds find append added hasBytes byteAt lineAt bitsAt textAt kindOf fieldsAt nodeAt binOpOf unOpOf spans spansOf exprsAt rest exprAt ended formOf namesAt formulasAt headerAt pop invertjump jumponcond jump-if-false jump-if-true goiftrue goiffalse emit-not negate code-not discharge-kind free-expr load-kind discharge2reg discharge2anyreg land load-both settle join-jump exp2reg exp2nextreg exp2anyreg exp2val small near rk-kind exp2rk discharge-jpc push emit-at emit concat emit-jump patch-to-here get-label code-label load-nil emit-nil check-stack reserve-regs alloc-reg free-reg add-constant search-local set-multret above emit-call closed-call last-argument compile-funcargs set-indexed code-self resolve-var leaf-expr after-one between after-two callee compile-head compile-expr jump-list get-jump-target patch-jump last-jump linked get-jump-control need-value retest patch-test-reg remove-values patch-list-aux formulas lower-chunk lower-formed lowered free-in-turn free-both emit-arith code-arith code-unary code-concat far-numeral compare-operands emit-comp code-comp operand before-right code-and code-or join-concat after-right code-unop local-named read-leaf read-one read-binary read-two read-many read-formulas read-expr read-args regs puts joined carry run-from andThen compute negation span climb size odd units round neg sum add sub mul div lt eq le ne ofInt ofFields ofBits nanBits toBits isNan found rows nils
+unfolding pad getAt setAt opCodeOf sbxOf excess abcOf aBxOf floor foldOf entryOf sameBytes same holds find append added hasBytes byteAt lineAt bitsAt textAt kindOf fieldsAt nodeAt binOpOf unOpOf spans spansOf exprsAt rest exprAt ended formOf namesAt formulasAt headerAt pop invertjump jumponcond jump-if-false jump-if-true goiftrue goiffalse emit-not negate code-not discharge-kind free-expr load-kind discharge2reg discharge2anyreg land load-both settle join-jump exp2reg exp2nextreg exp2anyreg exp2val small near rk-kind exp2rk discharge-jpc push emit-at emit concat emit-jump patch-to-here get-label code-label load-nil emit-nil check-stack reserve-regs alloc-reg free-reg add-constant search-local set-multret above emit-call closed-call last-argument compile-funcargs set-indexed code-self resolve-var leaf-expr after-one between after-two callee compile-head compile-expr jump-list get-jump-target patch-jump last-jump linked get-jump-control need-value retest patch-test-reg remove-values patch-list-aux formulas lower-chunk lower-formed lowered free-in-turn free-both emit-arith code-arith code-unary code-concat far-numeral compare-operands emit-comp code-comp operand before-right code-and code-or join-concat after-right code-unop local-named read-leaf read-one read-binary read-two read-many read-formulas read-expr read-args regs puts joined execute run-from andThen compute negation span climb size odd units round neg sum add sub mul div lt eq le ne ofInt ofFields ofBits nanBits toBits isNan found rows nils
 p-rows = refl
 
 -- further chunks, which catch faults that P1 to P12 let pass
@@ -140,7 +140,7 @@ more-rows =
     record { chunk = (1 ∷ 1 ∷ 1 ∷ 0 ∷ 97 ∷ 2 ∷ 13 ∷ 0 ∷ 7 ∷ 8 ∷ 14 ∷ 7 ∷ 8 ∷ 13 ∷ 7 ∷ 8 ∷ 13 ∷ 6 ∷ 4 ∷ 1 ∷ 0 ∷ 120 ∷ 2 ∷ 0 ∷ 7 ∷ 8 ∷ 3 ∷ 6 ∷ 4 ∷ 1 ∷ 0 ∷ 121 ∷ 0 ∷ 0 ∷ 7 ∷ 8 ∷ 13 ∷ 13 ∷ 0 ∷ 2 ∷ 0 ∷ 7 ∷ 8 ∷ 9 ∷ 1 ∷ 0 ∷ 4 ∷ 4 ∷ 4 ∷ 0 ∷ 115 ∷ 50 ∷ 53 ∷ 53 ∷ 6 ∷ 4 ∷ 1 ∷ 0 ∷ 99 ∷ []); answer = words (69 ∷ 90 ∷ 2147598358 ∷ 2147581974 ∷ 16453 ∷ 12615759 ∷ 16474 ∷ 2147549206 ∷ 2147500054 ∷ 2185281624 ∷ 2147483670 ∷ 16450 ∷ 8388674 ∷ 82053 ∷ 25165918 ∷ []) (1 ∷ 1 ∷ 1 ∷ 1 ∷ 1 ∷ 1 ∷ 1 ∷ 1 ∷ 1 ∷ 1 ∷ 1 ∷ 1 ∷ 1 ∷ 1 ∷ 1 ∷ []) (4 ∷ 4 ∷ 0 ∷ 2 ∷ 4 ∷ 4 ∷ []) (1 ∷ 65537 ∷ 0 ∷ 0 ∷ 131076 ∷ 393217 ∷ []) 7 3 } ∷
     []
 
--- chunks with short buffers: a refusal is given on the spot (difference 4)
+-- chunks with short buffers (differences 4 and 5): the number of the refusal, 0 where it is accepted
 record Sized : Type 0 where
   sizes : Sizes
   chunk : List ℕ
@@ -174,9 +174,9 @@ numbered (refusal n) = n
 numbered (words c l k v t f) = 0
 
 sized-found : map (λ r. numbered (summary (lowered (r .sizes) (r .chunk)))) sized ≡ map (λ r. r .number) sized
-unfolding pad getAt setAt opCodeOf sbxOf excess abcOf aBxOf floor foldOf entryOf sameBytes same holds find append added hasBytes byteAt lineAt bitsAt textAt kindOf fieldsAt nodeAt binOpOf unOpOf spans spansOf exprsAt rest exprAt ended formOf namesAt formulasAt headerAt pop invertjump jumponcond jump-if-false jump-if-true goiftrue goiffalse emit-not negate code-not discharge-kind free-expr load-kind discharge2reg discharge2anyreg land load-both settle join-jump exp2reg exp2nextreg exp2anyreg exp2val small near rk-kind exp2rk discharge-jpc push emit-at emit concat emit-jump patch-to-here get-label code-label load-nil emit-nil check-stack reserve-regs alloc-reg free-reg add-constant search-local set-multret above emit-call closed-call last-argument compile-funcargs set-indexed code-self resolve-var leaf-expr after-one between after-two callee compile-head compile-expr jump-list get-jump-target patch-jump last-jump linked get-jump-control need-value retest patch-test-reg remove-values patch-list-aux formulas lower-chunk lower-formed lowered free-in-turn free-both emit-arith code-arith code-unary code-concat far-numeral compare-operands emit-comp code-comp operand before-right code-and code-or join-concat after-right code-unop local-named read-leaf read-one read-binary read-two read-many read-formulas read-expr read-args regs puts joined carry run-from andThen compute negation span climb size odd units round neg sum add sub mul div lt eq le ne ofInt ofFields ofBits nanBits toBits isNan sized nils numbered
+unfolding pad getAt setAt opCodeOf sbxOf excess abcOf aBxOf floor foldOf entryOf sameBytes same holds find append added hasBytes byteAt lineAt bitsAt textAt kindOf fieldsAt nodeAt binOpOf unOpOf spans spansOf exprsAt rest exprAt ended formOf namesAt formulasAt headerAt pop invertjump jumponcond jump-if-false jump-if-true goiftrue goiffalse emit-not negate code-not discharge-kind free-expr load-kind discharge2reg discharge2anyreg land load-both settle join-jump exp2reg exp2nextreg exp2anyreg exp2val small near rk-kind exp2rk discharge-jpc push emit-at emit concat emit-jump patch-to-here get-label code-label load-nil emit-nil check-stack reserve-regs alloc-reg free-reg add-constant search-local set-multret above emit-call closed-call last-argument compile-funcargs set-indexed code-self resolve-var leaf-expr after-one between after-two callee compile-head compile-expr jump-list get-jump-target patch-jump last-jump linked get-jump-control need-value retest patch-test-reg remove-values patch-list-aux formulas lower-chunk lower-formed lowered free-in-turn free-both emit-arith code-arith code-unary code-concat far-numeral compare-operands emit-comp code-comp operand before-right code-and code-or join-concat after-right code-unop local-named read-leaf read-one read-binary read-two read-many read-formulas read-expr read-args regs puts joined execute run-from andThen compute negation span climb size odd units round neg sum add sub mul div lt eq le ne ofInt ofFields ofBits nanBits toBits isNan sized nils numbered
 sized-found = refl
 
 more-found : found (map (λ r. r .chunk) more-rows) ≡ map (λ r. r .answer) more-rows
-unfolding pad getAt setAt opCodeOf sbxOf excess abcOf aBxOf floor foldOf entryOf sameBytes same holds find append added hasBytes byteAt lineAt bitsAt textAt kindOf fieldsAt nodeAt binOpOf unOpOf spans spansOf exprsAt rest exprAt ended formOf namesAt formulasAt headerAt pop invertjump jumponcond jump-if-false jump-if-true goiftrue goiffalse emit-not negate code-not discharge-kind free-expr load-kind discharge2reg discharge2anyreg land load-both settle join-jump exp2reg exp2nextreg exp2anyreg exp2val small near rk-kind exp2rk discharge-jpc push emit-at emit concat emit-jump patch-to-here get-label code-label load-nil emit-nil check-stack reserve-regs alloc-reg free-reg add-constant search-local set-multret above emit-call closed-call last-argument compile-funcargs set-indexed code-self resolve-var leaf-expr after-one between after-two callee compile-head compile-expr jump-list get-jump-target patch-jump last-jump linked get-jump-control need-value retest patch-test-reg remove-values patch-list-aux formulas lower-chunk lower-formed lowered free-in-turn free-both emit-arith code-arith code-unary code-concat far-numeral compare-operands emit-comp code-comp operand before-right code-and code-or join-concat after-right code-unop local-named read-leaf read-one read-binary read-two read-many read-formulas read-expr read-args regs puts joined carry run-from andThen compute negation span climb size odd units round neg sum add sub mul div lt eq le ne ofInt ofFields ofBits nanBits toBits isNan found more-rows
+unfolding pad getAt setAt opCodeOf sbxOf excess abcOf aBxOf floor foldOf entryOf sameBytes same holds find append added hasBytes byteAt lineAt bitsAt textAt kindOf fieldsAt nodeAt binOpOf unOpOf spans spansOf exprsAt rest exprAt ended formOf namesAt formulasAt headerAt pop invertjump jumponcond jump-if-false jump-if-true goiftrue goiffalse emit-not negate code-not discharge-kind free-expr load-kind discharge2reg discharge2anyreg land load-both settle join-jump exp2reg exp2nextreg exp2anyreg exp2val small near rk-kind exp2rk discharge-jpc push emit-at emit concat emit-jump patch-to-here get-label code-label load-nil emit-nil check-stack reserve-regs alloc-reg free-reg add-constant search-local set-multret above emit-call closed-call last-argument compile-funcargs set-indexed code-self resolve-var leaf-expr after-one between after-two callee compile-head compile-expr jump-list get-jump-target patch-jump last-jump linked get-jump-control need-value retest patch-test-reg remove-values patch-list-aux formulas lower-chunk lower-formed lowered free-in-turn free-both emit-arith code-arith code-unary code-concat far-numeral compare-operands emit-comp code-comp operand before-right code-and code-or join-concat after-right code-unop local-named read-leaf read-one read-binary read-two read-many read-formulas read-expr read-args regs puts joined execute run-from andThen compute negation span climb size odd units round neg sum add sub mul div lt eq le ne ofInt ofFields ofBits nanBits toBits isNan found more-rows
 more-found = refl

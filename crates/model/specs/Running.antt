@@ -1,4 +1,4 @@
--- Running code words as the VM paper says (document 01, "Running"). Whatever uses a register at or above the frame, a constant that isn't listed, a word past the end,
+-- Running code words as the VM paper says (document 01, "Running and reading"). Whatever uses a register at or above the frame, a constant that isn't listed, a word past the end,
 -- an open list that isn't there, is still open or begins at or below the register that takes it, a global's name that is no text, an opcode that the lowering never emits,
 -- a `LoadNil` of no register, a `Concat` of fewer than two, a `Return` with B = 0, or goes to a word that isn't later, is stuck; and the words carried out are counted. Assumes nothing.
 use Prim.Native.Nat.{ℕ, zero, suc, _+_, _-_}
@@ -30,6 +30,7 @@ pub record Open : Type 0 where
   pub base : ℕ
   pub values : List Value
 
+-- the machine between two words: the next word, the registers of the frame, the open list if there is one, and the outward steps so far, the newest first
 pub record Machine : Type 0 where
   pub pc : ℕ
   pub registers : List Value
@@ -47,13 +48,16 @@ pub data Run : Type 0 where
   returned : List Value → List Outward → ℕ → Run
   stuck-run : Run
 
+-- a field as a truth value
 abbrev pub flag : ℕ → Bool
 flag n = not (eqb n 0)
 
+-- both true or both false
 abbrev pub same : Bool → Bool → Bool
 same true b = b
 same false b = not b
 
+-- the machine with another part
 abbrev pub at : ℕ → Machine → Machine
 at pc m = record { pc = pc; registers = m .registers; list = m .list; steps = m .steps }
 
@@ -66,6 +70,7 @@ with-list l m = record { pc = m .pc; registers = m .registers; list = l; steps =
 abbrev pub with-steps : List Outward → Machine → Machine
 with-steps h m = record { pc = m .pc; registers = m .registers; list = m .list; steps = h }
 
+-- stuck unless it is so
 abbrev pub require : Bool → After → After
 require t a = elim t [ true ↦ a | false ↦ stuck ]
 
@@ -117,6 +122,7 @@ module _ (w : World) (p : Program) (varargs : List Value) where
   puts m a [] f = f m
   puts m a (v ∷ vs) f = put m a v λ n. puts n (suc a) vs f
 
+  -- a value into a register, and on
   abbrev pub to : Machine → ℕ → Value → After
   to m a v = put m a v next
 
@@ -159,73 +165,73 @@ module _ (w : World) (p : Program) (varargs : List Value) where
   results m a zero t = no-list m (next (with-list (some (record { base = a; values = t .gives })) (with-steps (t .steps) m)))
   results m a (suc c) t = puts (with-steps (t .steps) m) a (fit c (t .gives)) next
 
-  -- one word
-  unfoldable pub carry : OpCode → ℕ → Machine → After
+  -- one word carried out
+  unfoldable pub execute : OpCode → ℕ → Machine → After
   -- MOVE: R(A) := R(B)
-  carry op.Move x m = reg m (bOf x) λ v. to m (aOf x) v
+  execute op.Move x m = reg m (bOf x) λ v. to m (aOf x) v
   -- LOADK: R(A) := Kst(Bx)
-  carry op.LoadK x m = constant (bxOf x) λ v. to m (aOf x) v
+  execute op.LoadK x m = constant (bxOf x) λ v. to m (aOf x) v
   -- LOADBOOL: R(A) := (Bool)B; if (C) pc++
-  carry op.LoadBool x m = put m (aOf x) (truth (flag (bOf x))) λ n. skip-if (flag (cOf x)) n
+  execute op.LoadBool x m = put m (aOf x) (truth (flag (bOf x))) λ n. skip-if (flag (cOf x)) n
   -- LOADNIL: R(A) := ... := R(B) := nil
-  carry op.LoadNil x m = require (leb (aOf x) (bOf x)) (puts m (aOf x) (fit ((bOf x) + 1 - (aOf x)) []) next)
+  execute op.LoadNil x m = require (leb (aOf x) (bOf x)) (puts m (aOf x) (fit ((bOf x) + 1 - (aOf x)) []) next)
   -- GETGLOBAL: R(A) := Gbl[Kst(Bx)]; the constant is the name
-  carry op.GetGlobal x m = constant (bxOf x) λ k. name-of k λ n. asked m (aOf x) global-read (n ∷ [])
+  execute op.GetGlobal x m = constant (bxOf x) λ k. name-of k λ n. asked m (aOf x) global-read (n ∷ [])
   -- GETTABLE: R(A) := R(B)[RK(C)]
-  carry op.GetTable x m = reg m (bOf x) λ o. rk-value m (cOf x) λ k. asked m (aOf x) index-read (o ∷ k ∷ [])
+  execute op.GetTable x m = reg m (bOf x) λ o. rk-value m (cOf x) λ k. asked m (aOf x) index-read (o ∷ k ∷ [])
   -- SELF: R(A+1) := R(B); R(A) := R(B)[RK(C)]
-  carry op.OpSelf x m = reg m (bOf x) λ o. put m ((aOf x) + 1) o λ n. rk-value n (cOf x) λ k. asked n (aOf x) index-read (o ∷ k ∷ [])
+  execute op.OpSelf x m = reg m (bOf x) λ o. put m ((aOf x) + 1) o λ n. rk-value n (cOf x) λ k. asked n (aOf x) index-read (o ∷ k ∷ [])
   -- ADD: R(A) := RK(B) + RK(C)
-  carry op.Add x m = rk-value m (bOf x) λ a. rk-value m (cOf x) λ b. computed m (aOf x) (compute w arith.Add a b (m .steps))
+  execute op.Add x m = rk-value m (bOf x) λ a. rk-value m (cOf x) λ b. computed m (aOf x) (compute w arith.Add a b (m .steps))
   -- SUB: R(A) := RK(B) - RK(C)
-  carry op.Sub x m = rk-value m (bOf x) λ a. rk-value m (cOf x) λ b. computed m (aOf x) (compute w arith.Sub a b (m .steps))
+  execute op.Sub x m = rk-value m (bOf x) λ a. rk-value m (cOf x) λ b. computed m (aOf x) (compute w arith.Sub a b (m .steps))
   -- MUL: R(A) := RK(B) * RK(C)
-  carry op.Mul x m = rk-value m (bOf x) λ a. rk-value m (cOf x) λ b. computed m (aOf x) (compute w arith.Mul a b (m .steps))
+  execute op.Mul x m = rk-value m (bOf x) λ a. rk-value m (cOf x) λ b. computed m (aOf x) (compute w arith.Mul a b (m .steps))
   -- DIV: R(A) := RK(B) / RK(C)
-  carry op.Div x m = rk-value m (bOf x) λ a. rk-value m (cOf x) λ b. computed m (aOf x) (compute w arith.Div a b (m .steps))
+  execute op.Div x m = rk-value m (bOf x) λ a. rk-value m (cOf x) λ b. computed m (aOf x) (compute w arith.Div a b (m .steps))
   -- MOD: R(A) := RK(B) % RK(C)
-  carry op.Mod x m = rk-value m (bOf x) λ a. rk-value m (cOf x) λ b. computed m (aOf x) (compute w arith.Mod a b (m .steps))
+  execute op.Mod x m = rk-value m (bOf x) λ a. rk-value m (cOf x) λ b. computed m (aOf x) (compute w arith.Mod a b (m .steps))
   -- POW: R(A) := RK(B) ^ RK(C)
-  carry op.Pow x m = rk-value m (bOf x) λ a. rk-value m (cOf x) λ b. computed m (aOf x) (compute w arith.Pow a b (m .steps))
+  execute op.Pow x m = rk-value m (bOf x) λ a. rk-value m (cOf x) λ b. computed m (aOf x) (compute w arith.Pow a b (m .steps))
   -- UNM: R(A) := -R(B)
-  carry op.Unm x m = reg m (bOf x) λ v. computed m (aOf x) (negation w v (m .steps))
+  execute op.Unm x m = reg m (bOf x) λ v. computed m (aOf x) (negation w v (m .steps))
   -- NOT: R(A) := not R(B)
-  carry op.Not x m = reg m (bOf x) λ v. to m (aOf x) (truth (not (is-true v)))
+  execute op.Not x m = reg m (bOf x) λ v. to m (aOf x) (truth (not (is-true v)))
   -- LEN: R(A) := length of R(B)
-  carry op.Len x m = reg m (bOf x) λ v. asked m (aOf x) length-of (v ∷ [])
+  execute op.Len x m = reg m (bOf x) λ v. asked m (aOf x) length-of (v ∷ [])
   -- CONCAT: R(A) := R(B).. ... ..R(C), from the right
-  carry op.Concat x m = require (ltb (bOf x) (cOf x)) (regs m (bOf x) ((cOf x) + 1 - (bOf x)) λ vs. computed m (aOf x) (joined vs (m .steps)))
+  execute op.Concat x m = require (ltb (bOf x) (cOf x)) (regs m (bOf x) ((cOf x) + 1 - (bOf x)) λ vs. computed m (aOf x) (joined vs (m .steps)))
   -- JMP: pc += sBx
-  carry op.Jmp x m = jump m (sbxOf x)
+  execute op.Jmp x m = jump m (sbxOf x)
   -- EQ: if ((RK(B) == RK(C)) ~= A) then pc++
-  carry op.Eq x m = rk-value m (bOf x) λ a. rk-value m (cOf x) λ b. compared m (flag (aOf x)) (ask-truth w equal (a ∷ b ∷ []) (m .steps))
+  execute op.Eq x m = rk-value m (bOf x) λ a. rk-value m (cOf x) λ b. compared m (flag (aOf x)) (ask-truth w equal (a ∷ b ∷ []) (m .steps))
   -- LT: if ((RK(B) < RK(C)) ~= A) then pc++
-  carry op.Lt x m = rk-value m (bOf x) λ a. rk-value m (cOf x) λ b. compared m (flag (aOf x)) (ask-truth w less (a ∷ b ∷ []) (m .steps))
+  execute op.Lt x m = rk-value m (bOf x) λ a. rk-value m (cOf x) λ b. compared m (flag (aOf x)) (ask-truth w less (a ∷ b ∷ []) (m .steps))
   -- LE: if ((RK(B) <= RK(C)) ~= A) then pc++
-  carry op.Le x m = rk-value m (bOf x) λ a. rk-value m (cOf x) λ b. compared m (flag (aOf x)) (ask-truth w less-or-equal (a ∷ b ∷ []) (m .steps))
+  execute op.Le x m = rk-value m (bOf x) λ a. rk-value m (cOf x) λ b. compared m (flag (aOf x)) (ask-truth w less-or-equal (a ∷ b ∷ []) (m .steps))
   -- TEST: if not (R(A) <=> C) then pc++
-  carry op.Test x m = reg m (aOf x) λ v. skip-if (not (same (is-true v) (flag (cOf x)))) m
+  execute op.Test x m = reg m (aOf x) λ v. skip-if (not (same (is-true v) (flag (cOf x)))) m
   -- TESTSET: if (R(B) <=> C) then R(A) := R(B) else pc++
-  carry op.TestSet x m = reg m (bOf x) λ v. elim (same (is-true v) (flag (cOf x))) [ true ↦ to m (aOf x) v | false ↦ skip-if true m ]
+  execute op.TestSet x m = reg m (bOf x) λ v. elim (same (is-true v) (flag (cOf x))) [ true ↦ to m (aOf x) v | false ↦ skip-if true m ]
   -- CALL: R(A), ..., R(A+C-2) := R(A)(R(A+1), ..., R(A+B-1)); B = 0 takes the open list, C = 0 makes one
-  carry op.Call x m = reg m (aOf x) λ f. arguments m (aOf x) (bOf x) λ n vs. results n (aOf x) (cOf x) (ask-many w (f ∷ vs) (n .steps))
+  execute op.Call x m = reg m (aOf x) λ f. arguments m (aOf x) (bOf x) λ n vs. results n (aOf x) (cOf x) (ask-many w (f ∷ vs) (n .steps))
   -- RETURN: return R(A), ..., R(A+B-2)
-  carry op.Return x m = require (not (eqb (bOf x) 0)) (no-list m (regs m (aOf x) ((bOf x) - 1) λ vs. ends vs (m .steps)))
+  execute op.Return x m = require (not (eqb (bOf x) 0)) (no-list m (regs m (aOf x) ((bOf x) - 1) λ vs. ends vs (m .steps)))
   -- VARARG: R(A), R(A+1), ..., R(A+B-2) = vararg; B = 0 makes an open list
-  carry op.VarArg x m = results m (aOf x) (bOf x) (taken varargs (m .steps))
+  execute op.VarArg x m = results m (aOf x) (bOf x) (taken varargs (m .steps))
   -- never emitted
-  carry op.GetUpval x m = stuck
-  carry op.SetGlobal x m = stuck
-  carry op.SetUpval x m = stuck
-  carry op.SetTable x m = stuck
-  carry op.NewTable x m = stuck
-  carry op.TailCall x m = stuck
-  carry op.ForLoop x m = stuck
-  carry op.ForPrep x m = stuck
-  carry op.TForLoop x m = stuck
-  carry op.SetList x m = stuck
-  carry op.Close x m = stuck
-  carry op.Closure x m = stuck
+  execute op.GetUpval x m = stuck
+  execute op.SetGlobal x m = stuck
+  execute op.SetUpval x m = stuck
+  execute op.SetTable x m = stuck
+  execute op.NewTable x m = stuck
+  execute op.TailCall x m = stuck
+  execute op.ForLoop x m = stuck
+  execute op.ForPrep x m = stuck
+  execute op.TForLoop x m = stuck
+  execute op.SetList x m = stuck
+  execute op.Close x m = stuck
+  execute op.Closure x m = stuck
 
   -- from the word at pc on, for at most `fuel` words: a word past the end, and a word that isn't later, are stuck
   unfoldable pub run-from : ℕ → Machine → ℕ → Run
@@ -233,7 +239,7 @@ module _ (w : World) (p : Program) (varargs : List Value) where
   run-from (suc fuel) m n =
       elim (ltb (m .pc) (length (p .words))) [
         | false ↦ stuck-run
-        | true ↦ elim (carry (opcodeOf (getD (p .words) (m .pc) 0)) (getD (p .words) (m .pc) 0) m) [
+        | true ↦ elim (execute (opcodeOf (getD (p .words) (m .pc) 0)) (getD (p .words) (m .pc) 0) m) [
           | stuck ↦ stuck-run
           | ends vs h ↦ returned vs h (suc n)
           | goes k ↦ elim (ltb (m .pc) (k .pc)) [ true ↦ run-from fuel k (suc n) | false ↦ stuck-run ]

@@ -23,6 +23,7 @@ pub record Buffers : Type 0 where
 abbrev pub bufs : List ℕ → List ℕ → List ℕ → List ℕ → List ℕ → Buffers
 bufs code lines kinds values pool = record { code = code; lines = lines; kinds = kinds; values = values; pool = pool }
 
+-- the answer of a step, with state and buffers, or a refusal: `LuaResult`
 pub data Result (A : Type 0) : Type 0 where
   done : A → State → Buffers → Result A
   refused : Refusal → Buffers → Result A
@@ -30,6 +31,7 @@ pub data Result (A : Type 0) : Type 0 where
 abbrev pub Step : Type 0 → Type 0
 Step A = State → Buffers → Result A
 
+-- on with the answer, if there is one: `?`
 unfoldable pub andThen : {A B : Type 0} → Result A → (A → Step B) → Result B
 andThen (done a s m) f = f a s m
 andThen (refused k m) f = refused k m
@@ -45,6 +47,7 @@ abbrev pub _>>_ : {A B : Type 0} → Step A → Step B → Step B
 abbrev pub return : {A : Type 0} → A → Step A
 return a s m = done a s m
 
+-- `Err`
 abbrev pub refuse : {A : Type 0} → Refusal → Step A
 refuse k s m = refused k m
 

@@ -32,7 +32,7 @@ pub enum ExprKind {
     VarArg,
 }
 
-// An expression on its way. The jump lists t (taken where it is true) and f (where it is false) are 0 for none, or k + 1 for the word k.
+// The descriptor of an expression: what of it has been emitted, and where its value is. The jump lists t (taken where it is true) and f (where it is false) are 0 for none, or k + 1 for the word k.
 pub struct ExprContext {
     pub kind: ExprKind,
     pub info: usize,
@@ -88,19 +88,19 @@ pub struct State {
     pub label: usize,
 }
 
-// A step that only changes the state.
+// The answer of a step that only changes the state.
 pub enum Stepped {
     Refused(Refusal),
     Done(State),
 }
 
-// A step that also gives a number: a word, a register, a constant or a jump list.
+// The answer of a step that also gives a number: a word, a register, a constant or a jump list.
 pub enum Given {
     Refused(Refusal),
     Done(State, usize),
 }
 
-// A step that gives a descriptor.
+// The answer of a step that gives a descriptor.
 pub enum Described {
     Refused(Refusal),
     Done(State, ExprContext),

@@ -80,7 +80,7 @@ unknown = read.Refused refusal.Kind
 abbrev pub node : Head → ℕ → ℕ → NodeRead
 node h line next = read.Node (record { head = h; line = line; next = next })
 
--- the fields behind kind, map and line, in bit order; operators are known and varargs are the chunk's
+-- the fields behind kind, map and line, in bit order; 4 for an unknown operator, 7 for a vararg in a chunk without varargs
 unfoldable pub fieldsAt : List ℕ → Bool → Kind → ℕ → ℕ → NodeRead
 fieldsAt s va Nil at line = node (head.Leaf leaf.Nil) line at
 fieldsAt s va True at line = node (head.Leaf leaf.True) line at

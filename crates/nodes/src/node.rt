@@ -66,7 +66,7 @@ fn many(many: Many, args: u8, line: u32, next: usize) -> NodeRead
     done(Head::Many(many, args), line, next)
 }
 
-// The fields of each kind that has some; only a vararg asks whether there are varargs.
+// Each kind that has fields, or a test of its own: a vararg, which alone asks whether there are varargs.
 fn read_number(chunk: &[u8], at: usize, line: u32) -> NodeRead
     ensures { λ r. ⌜ ((va : Bool) → fieldsAt (now (chunk .entry)) va Number at line ≡ r) ⌝ }
 {

@@ -1,4 +1,4 @@
-// Where a node ends and how many sub-expressions follow: the form check needs no more, so no head is built for it.
+// Where a node's own fields end, its line, and how many sub-expressions follow: the form check needs no more, so no head is built for it.
 ghost use mathlib.Core.Path.{_≡_};
 ghost use mathlib.Core.List.{List};
 ghost use mathlib.Core.Bool.{Bool};
@@ -42,7 +42,7 @@ fn ends(children: usize, line: u32, next: usize) -> ExtentRead
     })
 }
 
-// The fields of each kind that has some; only a vararg asks whether there are varargs.
+// Each kind that has fields, or a test of its own: a vararg, which alone asks whether there are varargs.
 fn skip_number(chunk: &[u8], at: usize, line: u32) -> ExtentRead
     ensures { λ r. ⌜ ((va : Bool) → extentOf (fieldsAt (now (chunk .entry)) va Number at line) ≡ r) ⌝ }
 {

@@ -1,4 +1,4 @@
-// Operands: the kind of a descriptor, a value as an RK operand, registers that are free again, and what an operator is to its operands (rilua's codegen.rs).
+// Operands: the kind of a descriptor, a value as an RK operand, registers that are free again, and of what sort an operator is (rilua's codegen.rs).
 // No buffer is touched here, and nothing is assumed.
 ghost use mathlib.Core.Path.{_≡_};
 ghost use lib.Dec.{leb};
@@ -70,7 +70,7 @@ pub fn rk(e: ExprContext) -> usize
 
 // ---- registers
 
-// The register of a value in one; of another BITRK, which is none.
+// The register of a value that is in one; of any other BITRK, which is no register.
 fn register_of(e: ExprContext) -> usize
     ensures { λ r. ⌜ registerOf e ≡ r ⌝ }
 {

@@ -103,7 +103,7 @@ fn in_register(e: ExprContext) -> bool
     is_kind(e, ExprKind::NonReloc)
 }
 
-// `exp2rk` of what was made an operand before the other one was lowered: mostly it still is one, and then no call is made.
+// `exp2rk`, without a call where the value is in a register and has no jumps, as the left operand mostly is.
 fn exp2rk_again(
     code: &mut [u32],
     lines: &mut [u32],
@@ -433,7 +433,7 @@ pub fn code_comp(
 
 // ---- before and after the right operand
 
-// An operand of arithmetic or of a comparison: numerals wait.
+// An operand of arithmetic or of a comparison: a numeral stays as it is.
 fn operand(
     code: &mut [u32],
     lines: &mut [u32],

@@ -15,12 +15,11 @@ use Rattle.chunk.specs.Ast.{Chunk, spansOf, placesOf}
 use Rattle.chunk.specs.Form.{formed, formOf}
 use Rattle.model.specs.declared.State.{State}
 use Rattle.model.specs.Steps.{Buffers, Result, done}
-use Rattle.model.specs.Claims.{Filled, Due, by-form, by-scratch, by-lowering, Padded}
+use Rattle.model.specs.Claims.{Filled, Due, by-form, by-scratch, by-lowering, Padded, Bytes}
 use Rattle.model.specs.Lowering.{Sizes, cleared, start, lower-chunk, Out, refusal-of, ended, lowered}
 use Rattle.labelled.specs.Emission.{St}
 use Rattle.labelled.specs.Expressions.{labelled}
 use Rattle.threads.specs.Holding.{Ends, gives, refuses}
-use Rattle.simulation.specs.Texts.{Bytes}
 use Rattle.simulation.specs.Whole.{Lowers-to, whole-lowered}
 use Rattle.faithful.specs.Accepted.{Accepted, header-names}
 use Rattle.faithful.specs.Cases.{lowered-cases}

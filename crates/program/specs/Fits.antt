@@ -13,9 +13,8 @@ use Rattle.buffers.specs.Pad.{pad}
 use Rattle.model.specs.declared.Lowered.{Lowered}
 use Rattle.model.specs.declared.Lowered.the-variants as answer
 use Rattle.model.specs.Steps.{Buffers}
-use Rattle.model.specs.Claims.{Padded}
+use Rattle.model.specs.Claims.{Padded, Bytes}
 use Rattle.model.specs.Lowering.{lowered}
-use Rattle.simulation.specs.Texts.{Bytes}
 use Rattle.padding.specs.Padded.{padded}
 use Rattle.listing.specs.declared.Listed.the-variants as listed
 use Rattle.listing.specs.Page.{Left, left, written}

@@ -24,7 +24,7 @@ numberOf Trailing = 8
 numberOf Scratch = 9
 -- more than 250 registers
 numberOf Registers = 10
--- a new constant without an entry
+-- a new constant beyond the shorter constant buffer, or 262,144 entries
 numberOf Constants = 11
 -- its text doesn't fit the pool
 numberOf Pool = 12

@@ -41,15 +41,15 @@ module _ (Γ : Setting) (p : Program) (t : List Constant) (most : p .frame ≤ m
     abbrev calls : Value → Machine → List Value → After
     calls f m vs = run.results W p VS m (aOf x) (cOf x) (ask-many W (f ∷ vs) (m .steps))
 
-    fixed-law : x ≡ abcOf op.Call b (suc k) c → run.carry W p VS (opcodeOf x) x (state n rs none h) ≡ run.results W p VS (state n rs none h) b c (ask-many W (span (suc k) b R) h)
-    unfolding run.carry
+    fixed-law : x ≡ abcOf op.Call b (suc k) c → run.execute W p VS (opcodeOf x) x (state n rs none h) ≡ run.results W p VS (state n rs none h) b c (ask-many W (span (suc k) b R) h)
+    unfolding run.execute
     fixed-law e = let i : Abc x op.Call b (suc k) c = abc e (omega nat) (omega nat) lc in
         rw (i .is-op) (reg-law W p VS rs R holds n none h (aOf x) b (λ f. run.arguments W p VS (state n rs none h) (aOf x) (bOf x) λ m vs. calls f m vs) (i .is-a) (omega nat)
         ∙ rw (i .is-b, i .is-a, i .is-c, add-one b) (regs-law W p VS rs R holds n none h k (suc b) (λ vs. run.results W p VS (state n rs none h) b c (ask-many W (R b ∷ vs) h)) (omega nat)))
 
     open-law : (vs : List Value) → x ≡ abcOf op.Call b 0 c →
-        run.carry W p VS (opcodeOf x) x (state n rs (beside (suc (k + b)) vs) h) ≡ run.results W p VS (state n rs none h) b c (ask-many W (span (suc k) b R ++ vs) h)
-    unfolding run.carry
+        run.execute W p VS (opcodeOf x) x (state n rs (beside (suc (k + b)) vs) h) ≡ run.results W p VS (state n rs none h) b c (ask-many W (span (suc k) b R ++ vs) h)
+    unfolding run.execute
     open-law vs e = let i : Abc x op.Call b 0 c = abc e (omega nat) (omega nat) lc in
         let z : suc (k + b) - suc b ≡ k = omega nat in
         rw (i .is-op) (reg-law W p VS rs R holds n (beside (suc (k + b)) vs) h (aOf x) b (λ f. run.arguments W p VS (state n rs (beside (suc (k + b)) vs) h) (aOf x) (bOf x) λ m us. calls f m us) (i .is-a) (omega nat)
@@ -57,8 +57,8 @@ module _ (Γ : Setting) (p : Program) (t : List Constant) (most : p .frame ≤ m
         (regs-law W p VS rs R holds n (beside (suc (k + b)) vs) h k (suc b) (λ us. run.results W p VS (state n rs none h) b c (ask-many W (R b ∷ (us ++ vs)) h)) (omega nat)))
 
   -- the varargs, all of them
-  all-varargs : (x n a : ℕ) (h : Hist) → a ≤ p .frame → x ≡ abcOf op.VarArg a 0 0 → run.carry W p VS (opcodeOf x) x (state n rs none h) ≡ goes (state (n + 1) rs (beside a VS) h)
-  unfolding run.carry
+  all-varargs : (x n a : ℕ) (h : Hist) → a ≤ p .frame → x ≡ abcOf op.VarArg a 0 0 → run.execute W p VS (opcodeOf x) x (state n rs none h) ≡ goes (state (n + 1) rs (beside a VS) h)
+  unfolding run.execute
   all-varargs x n a h la e = let i : Abc x op.VarArg a 0 0 = abc e (omega nat) (omega nat) (omega nat) in rw (i .is-op, i .is-a, i .is-b) refl
 
   -- all words of a call, to the machine that its results make

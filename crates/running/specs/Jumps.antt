@@ -51,23 +51,23 @@ module _ (Γ : Setting) (p : Program) (t : List Constant) (lists : Lists p t) (m
   m = state n rs l h
 
   abbrev carries : After
-  carries = run.carry W p VS (opcodeOf x) x m
+  carries = run.execute W p VS (opcodeOf x) x m
 
   pub jump-law : (q : ℕ) → n < q → q ≤ maxWords → x ≡ jmpTo n q → carries ≡ goes (state q rs l h)
-  unfolding run.carry
+  unfolding run.execute
   jump-law q a b e = let z : n + 1 + (q - (n + 1)) ≡ q = omega nat in
       let o : opcodeOf x ≡ op.Jmp = ap opcodeOf e ∙ opcode-a-bx op.Jmp 0 _ in
       let s : sbxOf x ≡ _ = ap sbxOf e ∙ sbx-forward n q a b in
       rw (o, s, z) refl
 
   pub test-law : (b : ℕ) (k : Bool) → b < p .frame → x ≡ abcOf op.Test b 0 (bit k) → carries ≡ pick (agrees (is-true (R b)) k) (goes (state (n + 1) rs l h)) (goes (state (n + 2) rs l h))
-  unfolding run.carry
+  unfolding run.execute
   test-law b k lb e = let i : Abc x op.Test b 0 (bit k) = abc e (omega nat) (omega nat) (omega (nat, bit-small k)) in
       rw (i .is-op) (reg-law W p VS rs R holds n l h (aOf x) b (λ v. run.skip-if (not (agrees (is-true v) (run.flag (cOf x)))) m) (i .is-a) lb ∙ rw (i .is-c, flag-bit k) (skips (agrees (is-true (R b)) k) m))
 
   -- with any register that fits its field
   pub keep-law : (a b : ℕ) (k : Bool) → a < 256 → b < p .frame → x ≡ abcOf op.TestSet a b (bit k) → carries ≡ pick (agrees (is-true (R b)) k) (run.to W p VS m a (R b)) (goes (state (n + 2) rs l h))
-  unfolding run.carry
+  unfolding run.execute
   keep-law a b k la lb e = let i : Abc x op.TestSet a b (bit k) = abc e la (omega nat) (omega (nat, bit-small k)) in
       rw (i .is-op) (reg-law W p VS rs R holds n l h (bOf x) b (λ v. elim (agrees (is-true v) (run.flag (cOf x))) [ true ↦ run.to W p VS m (aOf x) v | false ↦ run.skip-if true m ]) (i .is-b) lb
       ∙ chosen (agrees (is-true (R b)) (run.flag (cOf x))) (run.to W p VS m (aOf x) (R b)) (goes (state (n + 2) rs l h)) ∙ rw (i .is-a, i .is-c, flag-bit k) refl)
@@ -75,8 +75,8 @@ module _ (Γ : Setting) (p : Program) (t : List Constant) (lists : Lists p t) (m
   abbrev comparing : Kind → After
   comparing o = run.rk-value W p VS m (bOf x) λ u. run.rk-value W p VS m (cOf x) λ v. run.compared W p VS m (run.flag (aOf x)) (ask-truth W o (u ∷ v ∷ []) h)
 
-  carry-compare : (o : Kind) → Compares o → run.carry W p VS (comparison o) x m ≡ comparing o
-  unfolding run.carry
+  carry-compare : (o : Kind) → Compares o → run.execute W p VS (comparison o) x m ≡ comparing o
+  unfolding run.execute
   carry-compare global-read c = absurd c
   carry-compare index-read c = absurd c
   carry-compare call c = absurd c

@@ -41,7 +41,7 @@ module _ (Γ : Setting) (p : Program) (t : List Constant) (lists : Lists p t) (m
   m = state n rs l h
 
   abbrev carries : ℕ → After
-  carries x = run.carry W p VS (opcodeOf x) x m
+  carries x = run.execute W p VS (opcodeOf x) x m
 
   -- register a gets v after the steps g
   abbrev writes : ℕ → Value → Hist → After
@@ -68,12 +68,12 @@ module _ (Γ : Setting) (p : Program) (t : List Constant) (lists : Lists p t) (m
     with-constant o c b e = a-bx e (omega nat) (omega (nat, lists .few))
 
     load : (c : Constant) → Listed c t → x ≡ aBxOf op.LoadK a (place c t) → carries x ≡ writes a (valueOf c) h
-    unfolding run.carry
+    unfolding run.execute
     load c b e = let i : ABx x op.LoadK a (place c t) = with-constant op.LoadK c b e in
         rw (i .is-op) (constant-law W p VS t lists (bxOf x) c (λ v. run.to W p VS m (aOf x) v) (i .is-bx) b ∙ writing (valueOf c) h (i .is-a))
 
     pub load-bool : (b s : Bool) → x ≡ abcOf op.LoadBool a (bit b) (bit s) → carries x ≡ run.skip-if s (state n (set rs a (truth b)) l h)
-    unfolding run.carry
+    unfolding run.execute
     load-bool b s e = let i : Abc x op.LoadBool a (bit b) (bit s) = abc e (omega nat) (omega (nat, bit-small b)) (omega (nat, bit-small s)) in
         rw (i .is-op) (put-law W p VS n l h rs (aOf x) a (truth (run.flag (bOf x))) (λ k. run.skip-if (run.flag (cOf x)) k) (i .is-a) la ∙ rw (i .is-b, i .is-c, flag-bit b, flag-bit s) refl)
 
@@ -90,33 +90,33 @@ module _ (Γ : Setting) (p : Program) (t : List Constant) (lists : Lists p t) (m
       of-one o e = abc e (omega nat) (omega nat) (omega nat)
 
       move-law : x ≡ abcOf op.Move a r 0 → carries x ≡ writes a (R r) h
-      unfolding run.carry
+      unfolding run.execute
       move-law e = let i : Abc x op.Move a r 0 = of-one op.Move e in rw (i .is-op) (reading (bOf x) r (λ v. run.to W p VS m (aOf x) v) (i .is-b) lr ∙ writing (R r) h (i .is-a))
 
       unm-law : x ≡ abcOf op.Unm a r 0 → carries x ≡ writes a (negation W (R r) h .gives) (negation W (R r) h .steps)
-      unfolding run.carry
+      unfolding run.execute
       unm-law e = let i : Abc x op.Unm a r 0 = of-one op.Unm e in
           rw (i .is-op) (reading (bOf x) r (λ v. run.computed W p VS m (aOf x) (negation W v h)) (i .is-b) lr ∙ writing (negation W (R r) h .gives) (negation W (R r) h .steps) (i .is-a))
 
       not-law : x ≡ abcOf op.Not a r 0 → carries x ≡ writes a (truth (not (is-true (R r)))) h
-      unfolding run.carry
+      unfolding run.execute
       not-law e = let i : Abc x op.Not a r 0 = of-one op.Not e in
           rw (i .is-op) (reading (bOf x) r (λ v. run.to W p VS m (aOf x) (truth (not (is-true v)))) (i .is-b) lr ∙ writing (truth (not (is-true (R r)))) h (i .is-a))
 
       len-law : x ≡ abcOf op.Len a r 0 → carries x ≡ writes a (ask W length-of (R r ∷ []) h .gives) (ask W length-of (R r ∷ []) h .steps)
-      unfolding run.carry
+      unfolding run.execute
       len-law e = let i : Abc x op.Len a r 0 = of-one op.Len e in
           rw (i .is-op) (reading (bOf x) r (λ v. run.asked W p VS m (aOf x) length-of (v ∷ [])) (i .is-b) lr ∙ writing (ask W length-of (R r ∷ []) h .gives) (ask W length-of (R r ∷ []) h .steps) (i .is-a))
 
       index-law : (k : Rk) (u : ℕ) → CodesRk t (p .frame) k u → x ≡ abcOf op.GetTable a r u → carries x ≡ writes a (ask W index-read (R r ∷ rk k R ∷ []) h .gives) (ask W index-read (R r ∷ rk k R ∷ []) h .steps)
-      unfolding run.carry
+      unfolding run.execute
       index-law k u c e = let i : Abc x op.GetTable a r u = abc e (omega nat) (omega nat) (rk-small t (p .frame) most k u c) in
           rw (i .is-op) (reading (bOf x) r (λ o. run.rk-value W p VS m (cOf x) λ v. run.asked W p VS m (aOf x) index-read (o ∷ v ∷ [])) (i .is-b) lr
           ∙ operand (cOf x) u k (λ v. run.asked W p VS m (aOf x) index-read (R r ∷ v ∷ [])) (i .is-c) c
           ∙ writing (ask W index-read (R r ∷ rk k R ∷ []) h .gives) (ask W index-read (R r ∷ rk k R ∷ []) h .steps) (i .is-a))
 
     global-law : (g : List ℕ) → Listed (ktext g) t → x ≡ aBxOf op.GetGlobal a (place (ktext g) t) → carries x ≡ writes a (ask W global-read (text g ∷ []) h .gives) (ask W global-read (text g ∷ []) h .steps)
-    unfolding run.carry
+    unfolding run.execute
     global-law g b e = let i : ABx x op.GetGlobal a (place (ktext g) t) = with-constant op.GetGlobal (ktext g) b e in
         rw (i .is-op) (constant-law W p VS t lists (bxOf x) (ktext g) (λ k. run.name-of k λ v. run.asked W p VS m (aOf x) global-read (v ∷ [])) (i .is-bx) b
         ∙ writing (ask W global-read (text g ∷ []) h .gives) (ask W global-read (text g ∷ []) h .steps) (i .is-a))
@@ -124,8 +124,8 @@ module _ (Γ : Setting) (p : Program) (t : List Constant) (lists : Lists p t) (m
     abbrev arithmetic : Arith → After
     arithmetic o = run.rk-value W p VS m (bOf x) λ u. run.rk-value W p VS m (cOf x) λ v. run.computed W p VS m (aOf x) (compute W o u v h)
 
-    carry-arith : (o : Arith) → Binary o → run.carry W p VS (arithOp o) x m ≡ arithmetic o
-    unfolding run.carry
+    carry-arith : (o : Arith) → Binary o → run.execute W p VS (arithOp o) x m ≡ arithmetic o
+    unfolding run.execute
     carry-arith arith.Add b = refl
     carry-arith arith.Sub b = refl
     carry-arith arith.Mul b = refl
@@ -142,7 +142,7 @@ module _ (Γ : Setting) (p : Program) (t : List Constant) (lists : Lists p t) (m
         ∙ writing (compute W o (rk j R) (rk k R) h .gives) (compute W o (rk j R) (rk k R) h .steps) (i .is-a))
 
     concat-law : (b k : ℕ) → 1 ≤ k → k + b < p .frame → x ≡ abcOf op.Concat a b (k + b) → carries x ≡ writes a (cats Γ k b R h .gives) (cats Γ k b R h .steps)
-    unfolding run.carry
+    unfolding run.execute
     concat-law b k one lk e = let i : Abc x op.Concat a b (k + b) = abc e (omega nat) (omega nat) (omega nat) in
         let z : k + b + 1 - b ≡ suc k = omega nat in
         rw (i .is-op, i .is-b, i .is-c, lt-ltb b (k + b) (omega nat), z)
@@ -150,7 +150,7 @@ module _ (Γ : Setting) (p : Program) (t : List Constant) (lists : Lists p t) (m
         ∙ rw (joined-cats k b) (writing (cats Γ k b R h .gives) (cats Γ k b R h .steps) (i .is-a)))
 
     vararg-law : x ≡ abcOf op.VarArg a 2 0 → carries x ≡ writes a (first VS) h
-    unfolding run.carry
+    unfolding run.execute
     vararg-law e = let i : Abc x op.VarArg a 2 0 = abc e (omega nat) (omega nat) (omega nat) in
         rw (i .is-op, i .is-a, i .is-b, fit-one VS) (puts-law W p VS n l h (first VS ∷ []) rs a run.next (omega nat))
 
@@ -170,7 +170,7 @@ module _ (Γ : Setting) (p : Program) (t : List Constant) (lists : Lists p t) (m
 
   -- nil in the registers a to a + k
   pub nil-law : (x a k : ℕ) → k + a < p .frame → x ≡ abcOf op.LoadNil a (k + a) 0 → carries x ≡ goes (state (n + 1) (sets rs a (fit (suc k) [])) l h)
-  unfolding run.carry
+  unfolding run.execute
   nil-law x a k lk e = let i : Abc x op.LoadNil a (k + a) 0 = abc e (omega nat) (omega nat) (omega nat) in
       let z : k + a + 1 - a ≡ suc k = omega nat in
       rw (i .is-op, i .is-a, i .is-b, le-leb a (k + a) (omega nat), z) (puts-law W p VS n l h (fit (suc k) []) rs a run.next (omega (nat, fit-length (suc k) [])))
@@ -178,7 +178,7 @@ module _ (Γ : Setting) (p : Program) (t : List Constant) (lists : Lists p t) (m
   -- a method: the object goes to its register before the key is read
   pub self-law : (x a o : ℕ) (k : Rk) (u : ℕ) → suc a < p .frame → o < p .frame → CodesRk t (p .frame) k u → x ≡ abcOf op.OpSelf a o u →
       carries x ≡ goes (state (n + 1) (set (set rs (suc a) (R o)) a (evalS Γ a o k R h .gives)) l (evalS Γ a o k R h .steps))
-  unfolding run.carry
+  unfolding run.execute
   self-law x a o k u la lo c e = let i : Abc x op.OpSelf a o u = abc e (omega nat) (omega nat) (rk-small t (p .frame) most k u c) in
       let z : aOf x + 1 ≡ suc a = omega (nat, i .is-a) in
       rw (i .is-op) (reading (bOf x) o (λ v. run.put W p VS m (aOf x + 1) v λ q. run.rk-value W p VS q (cOf x) λ y. run.asked W p VS q (aOf x) index-read (v ∷ y ∷ [])) (i .is-b) lo

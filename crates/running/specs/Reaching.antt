@@ -8,12 +8,12 @@ use lib.ListN.{length, getD}
 use borrow.Author.Tests.{lt-ltb}
 use Rattle.instructions.specs.Word.{opcodeOf}
 use Rattle.model.specs.Values.{Value, Outward, World}
-use Rattle.model.specs.Running.{Program, Machine, After, goes, ends, returned, carry, run-from}
+use Rattle.model.specs.Running.{Program, Machine, After, goes, ends, returned, execute, run-from}
 
 module _ (w : World) (p : Program) (varargs : List Value) where
   -- what carrying out the word at a machine's pc does
   abbrev pub does : Machine → After
-  does m = carry w p varargs (opcodeOf (getD (p .words) (m .pc) 0)) (getD (p .words) (m .pc) 0) m
+  does m = execute w p varargs (opcodeOf (getD (p .words) (m .pc) 0)) (getD (p .words) (m .pc) 0) m
 
   pub record Reach (m k : Machine) : Type 0 where
     pub steps : ℕ

@@ -46,8 +46,8 @@ module _ (Γ : Setting) (p : Program) (s : Machine) (t : List Constant) (lists :
 
   -- the word that returns k values from register a on
   return-law : (rs : List Value) (R : Regs) → Holds (p .frame) rs R → (x n a k : ℕ) (h : Hist) → a + k ≤ p .frame → x ≡ abcOf op.Return a (suc k) 0 →
-      run.carry (Γ .world) p (Γ .varargs) (opcodeOf x) x (state n rs none h) ≡ ends (span k a R) h
-  unfolding run.carry
+      run.execute (Γ .world) p (Γ .varargs) (opcodeOf x) x (state n rs none h) ≡ ends (span k a R) h
+  unfolding run.execute
   return-law rs R v x n a k h b e = let i : Abc x op.Return a (suc k) 0 = abc e (omega nat) (omega nat) (omega nat) in
       let z : suc k - 1 ≡ k = omega nat in
       rw (i .is-op, i .is-a, i .is-b, ne-eqb (suc k) 0 (λ q. omega nat), z) (regs-law (Γ .world) p (Γ .varargs) rs R v n none h k a (λ vs. ends vs h) (omega nat))

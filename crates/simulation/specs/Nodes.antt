@@ -30,6 +30,7 @@ use Rattle.model.specs.Emission.{with-place}
 use Rattle.model.specs.Discharge.{exp2nextreg}
 use Rattle.model.specs.Operators.{code-unop}
 use Rattle.model.specs.Expressions.{compile-funcargs, leaf-expr, after-one, between, after-two, callee, compile-head, compile-node, compile-expr}
+use Rattle.model.specs.Claims.{Bytes}
 use Rattle.labelled.specs.Code.{reg}
 use Rattle.labelled.specs.Places.{listed-include}
 use Rattle.labelled.specs.Emission.{St, addK}
@@ -48,13 +49,13 @@ use Rattle.simulation.specs.ToRegister.{sim-next}
 use Rattle.simulation.specs.AnyRegister.{sim-any}
 use Rattle.simulation.specs.Negating.{sim-not}
 use Rattle.simulation.specs.Freeing.{Takes, any-takes, takes-more}
-use Rattle.simulation.specs.Parts.{at-place, Lowers}
+use Rattle.simulation.specs.Parts.{at-place, Lowers-expr}
 use Rattle.simulation.specs.Late.{sound-fresh}
 use Rattle.simulation.specs.Unary.{sim-neg, sim-len}
 use Rattle.simulation.specs.Chaining.{InF}
 use Rattle.simulation.specs.Indexing.{sim-indexed}
 use Rattle.simulation.specs.Calling.{sim-closed, sim-last}
-use Rattle.simulation.specs.Texts.{Bytes, ShortNode, ShortLeaf, ShortHead, ShortOne, ShortMany, short-node}
+use Rattle.simulation.specs.Texts.{ShortNode, ShortLeaf, ShortHead, ShortOne, ShortMany, short-node}
 use Rattle.simulation.specs.Leaves.{text-listed, text-desc, sim-leaf}
 use Rattle.simulation.specs.Methods.{sim-callee}
 use Rattle.simulation.specs.Trees.{sound-comp}
@@ -131,7 +132,7 @@ module _ (chunk : List ℕ) (hd : Header) (names : List Text) (nm : names ≡ na
   callee-free active f (many.MethodCall t) q o = omega arith
 
   -- sub-expressions are lowered by g and parsed by F
-  module _ (g : Step ExprContext) (F : ℕ → ℕ → Parsed Expr) (lowers : (a : Expr) (at line at′ line′ : ℕ) → F at line ≡ parsed a at′ line′ → Lowers (length names) g (comp chunk names a) at line at′ line′) where
+  module _ (g : Step ExprContext) (F : ℕ → ℕ → Parsed Expr) (lowers : (a : Expr) (at line at′ line′ : ℕ) → F at line ≡ parsed a at′ line′ → Lowers-expr (length names) g (comp chunk names a) at line at′ line′) where
     -- the same tree and the same place
     same-args : {x : Result ExprContext} (Γ : Env) (b k : ℕ) (σ : St) (es es′ : Exprs) (a a′ l l′ : ℕ) → es ≡ es′ → a ≡ a′ → l ≡ l′ → Ends x (λ e s′ m′. SimD (at-place Γ a l) s′ m′ e (compArgs chunk names es b k σ)) → Ends x (λ e s′ m′. SimD (at-place Γ a′ l′) s′ m′ e (compArgs chunk names es′ b k σ))
     same-args {x = x} Γ b k σ es es′ a a′ l l′ p q r h = subst (λ z. Ends x (λ e s′ m′. SimD (at-place Γ a′ l′) s′ m′ e (compArgs chunk names z b k σ))) p (subst (λ z. Ends x (λ e s′ m′. SimD (at-place Γ a′ z) s′ m′ e (compArgs chunk names es b k σ))) r (subst (λ z. Ends x (λ e s′ m′. SimD (at-place Γ z l) s′ m′ e (compArgs chunk names es b k σ))) q h))
@@ -227,7 +228,7 @@ module _ (chunk : List ℕ) (hd : Header) (names : List Text) (nm : names ≡ na
     unfolding compile-expr andThen
     expr-is left s m n e = ap (λ r. compile-node chunk hd (compile-expr chunk hd left) r s m) e
 
-    pub expr-at : (left : ℕ) (a : Expr) (at line at′ line′ : ℕ) → exprAt chunk (hd .varargs) left at line ≡ parsed a at′ line′ → Lowers (length names) (compile-expr chunk hd left) (comp chunk names a) at line at′ line′
+    pub expr-at : (left : ℕ) (a : Expr) (at line at′ line′ : ℕ) → exprAt chunk (hd .varargs) left at line ≡ parsed a at′ line′ → Lowers-expr (length names) (compile-expr chunk hd left) (comp chunk names a) at line at′ line′
     unfolding exprAt
     expr-at zero a at line at′ line′ e Γ s m σ act one on l h = absurd (let y : _≡_ {A = ℕ} 0 1 = cc in omega arith)
     expr-at (suc left) a at line at′ line′ e Γ s m σ act one on l h =

@@ -44,7 +44,7 @@ use Rattle.simulation.specs.ToRegister.{sim-next}
 use Rattle.simulation.specs.AnyRegister.{sim-any}
 use Rattle.simulation.specs.Deciding.{sim-go-true, sim-go-false}
 use Rattle.simulation.specs.Freeing.{Takes, rk-takes, any-takes, takes-more}
-use Rattle.simulation.specs.Parts.{at-place, inner, framed, outward-d, inward, raise-s, known-d, operand-more, Lowers}
+use Rattle.simulation.specs.Parts.{at-place, inner, framed, outward-d, inward, raise-s, known-d, operand-more, Lowers-expr}
 use Rattle.simulation.specs.Sides.{SimL, Left, sim-operand}
 use Rattle.simulation.specs.Arithmetic.{LeftTakes, numeral-own, sim-arith}
 use Rattle.simulation.specs.Comparing.{sim-comp}
@@ -53,7 +53,7 @@ use Rattle.simulation.specs.Chaining.{sim-join}
 use Rattle.simulation.specs.Indexing.{sim-indexed}
 use Rattle.simulation.specs.Trees.{sound-comp, comp-grows}
 
-module _ (chunk : List ℕ) (names : List Text) (f : Step ExprContext) (b : Expr) (a₁ l₁ a₂ l₂ : ℕ) (right : Lowers (length names) f (comp chunk names b) a₁ l₁ a₂ l₂) (Γ : Env) (act : Γ .active ≡ length names) where
+module _ (chunk : List ℕ) (names : List Text) (f : Step ExprContext) (b : Expr) (a₁ l₁ a₂ l₂ : ℕ) (right : Lowers-expr (length names) f (comp chunk names b) a₁ l₁ a₂ l₂) (Γ : Env) (act : Γ .active ≡ length names) where
   abbrev Γ₁ : Env
   Γ₁ = at-place Γ a₁ l₁
 

@@ -169,5 +169,5 @@ operand-more s s′ e σ τ (reg r) g l h = (h .0, (h .1 .0, omega (arith, h .1 
 operand-more s s′ e σ τ (con v) g l h = (h .0, more-rk (σ .tab) (τ .tab) (s .frame) (s′ .frame) g l (con v) (e .info + bitRk) (h .1))
 
 -- ---- lowering a sub-expression: from one place of the chunk to another, for any labels and any frame before it
-abbrev pub Lowers : ℕ → Step ExprContext → (St → Pair) → ℕ → ℕ → ℕ → ℕ → Type 0
-Lowers active f R a l a′ l′ = (Γ : Env) (s : State) (m : Buffers) (σ : St) → Γ .active ≡ active → 1 ≤ Γ .n → On (Γ .n) σ → active ≤ σ .free → Sims (at-place Γ a l) s m σ → Ends (f s m) (λ e s′ m′. SimD (at-place Γ a′ l′) s′ m′ e (R σ))
+abbrev pub Lowers-expr : ℕ → Step ExprContext → (St → Pair) → ℕ → ℕ → ℕ → ℕ → Type 0
+Lowers-expr active f R a l a′ l′ = (Γ : Env) (s : State) (m : Buffers) (σ : St) → Γ .active ≡ active → 1 ≤ Γ .n → On (Γ .n) σ → active ≤ σ .free → Sims (at-place Γ a l) s m σ → Ends (f s m) (λ e s′ m′. SimD (at-place Γ a′ l′) s′ m′ e (R σ))

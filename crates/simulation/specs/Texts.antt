@@ -1,9 +1,9 @@
 -- Texts of a node are short: a length of two bytes is below 65,536. By the cases of reading a node, none of which changes a length.
-use Prim.Native.Nat.{ℕ, zero, suc, _+_, _≤_, _<_}
+use Prim.Native.Nat.{ℕ, zero, suc, _+_, _≤_}
 use mathlib.Core.Bool.{Bool, true, false}
 use mathlib.Core.List.{List, [], _∷_}
 use native.Mathlib.Omega.{arith}
-use lib.ListN.{length, getD, take, drop}
+use lib.ListN.{length, take, drop}
 use Rattle.constants.specs.Entry.{part}
 use Rattle.constants.specs.Distinct.{Short}
 use Rattle.constants.specs.declared.Val.the-variants as val
@@ -28,10 +28,7 @@ use Rattle.nodes.specs.declared.node.Front.{Front}
 use Rattle.nodes.specs.declared.node.Front.the-variants as front
 use Rattle.nodes.specs.declared.node.NodeRead.{NodeRead}
 use Rattle.nodes.specs.declared.node.NodeRead.the-variants as read
-
--- the list stands for bytes
-abbrev pub Bytes : List ℕ → Type 0
-Bytes s = (i : ℕ) → getD s i 0 < 256
+use Rattle.model.specs.Claims.{Bytes}
 
 module _ (s : List ℕ) where
   abbrev pub ShortText : Text → Type 0

@@ -22,6 +22,7 @@ use Rattle.model.specs.Emission.{emit}
 use Rattle.model.specs.Discharge.{exp2nextreg}
 use Rattle.model.specs.Expressions.{compile-expr}
 use Rattle.model.specs.Lowering.{Sizes, cleared, start, formulas, lower-chunk}
+use Rattle.model.specs.Claims.{Bytes}
 use Rattle.labelled.specs.Code.{Code, size, edit}
 use Rattle.labelled.specs.Emission.{St, flush, here}
 use Rattle.labelled.specs.Fresh.{On, next-on, dv-new}
@@ -42,14 +43,13 @@ use Rattle.simulation.specs.Constants.{tabled-empty}
 use Rattle.simulation.specs.Registers.{sim-reserve}
 use Rattle.simulation.specs.Discharging.{sound-dv}
 use Rattle.simulation.specs.ToRegister.{sim-next}
-use Rattle.simulation.specs.Parts.{at-place, Lowers}
-use Rattle.simulation.specs.Texts.{Bytes}
+use Rattle.simulation.specs.Parts.{at-place, Lowers-expr}
 use Rattle.simulation.specs.Trees.{sound-comp}
 use Rattle.simulation.specs.Nodes.{invert, same-parsed, expr-at}
 
 -- ---- formulas
 
-module _ (chunk : List ℕ) (names : List Text) (g : Step ExprContext) (F : ℕ → ℕ → Parsed Expr) (lowers : (a : Expr) (at line at′ line′ : ℕ) → F at line ≡ parsed a at′ line′ → Lowers (length names) g (comp chunk names a) at line at′ line′) where
+module _ (chunk : List ℕ) (names : List Text) (g : Step ExprContext) (F : ℕ → ℕ → Parsed Expr) (lowers : (a : Expr) (at line at′ line′ : ℕ) → F at line ≡ parsed a at′ line′ → Lowers-expr (length names) g (comp chunk names a) at line at′ line′) where
   -- the state behind them, and the registers that are taken then
   pub record All (Γ : Env) (s : State) (m : Buffers) (es : Exprs) (σ : St) : Type 0 where
     pub now : Sims Γ s m (compAll chunk names es σ)

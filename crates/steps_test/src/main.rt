@@ -292,7 +292,7 @@ fn two_nils(label: &[u8], w: u32, pc: usize, last: usize, from: usize, next: usi
 }
 
 // Behind Move 1 2: one word for adjacent registers, LoadNil 2 3, or for one, LoadNil 2 2; two for others, LoadNil 2 2 and LoadNil 4 4; none at word 0, where all
-// registers are nil. LoadNil 1 1 is lengthened to LoadNil 1 3, but not where word 1 has a label: LoadNil 2 3.
+// registers above the locals are nil. LoadNil 1 1 is lengthened to LoadNil 1 3, but not where word 1 has a label: LoadNil 2 3.
 fn nils() {
     two_nils(b"nil to 2 and 3", 16777280, 1, 0, 2, 3);
     two_nils(b"nil to 2 and 2", 16777280, 1, 0, 2, 2);
