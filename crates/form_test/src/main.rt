@@ -207,6 +207,45 @@ fn kinds(scratch: &mut [u32]) {
     print_places(scratch, 14);
 }
 
+// Document 01, header: "3 where map bits 2 to 7 stand". Node: "3 where the map has a bit the kind doesn't take or lacks one it needs", and only then
+// "2 inside a field".
+fn maps(scratch: &mut [u32]) {
+    show(b"header bit 2, and no byte", b"\x04", scratch);
+    show(b"header bit 7", b"\x80\x00", scratch);
+    show(b"nil with a number's bit", b"\x00\x01\x00\x02", scratch);
+    show(b"nil with bit 5", b"\x00\x01\x00\x20", scratch);
+    show(b"number without its bit", b"\x00\x01\x03\x00", scratch);
+}
+
+// "4 for an unknown kind" (they end at 13), and only then "2 at a missing map byte".
+fn unknown_kinds(scratch: &mut [u32]) {
+    show(b"kind 14", b"\x00\x01\x0e\x00", scratch);
+    show(b"kind 255", b"\x00\x01\xff\x00", scratch);
+    show(b"kind 255, and no byte", b"\x00\x01\xff", scratch);
+}
+
+// "4 for an unknown operator": `BinOp` is 0 to 14 and `UnOp` 0 to 2. The operands stand there.
+fn unknown_operators(scratch: &mut [u32]) {
+    let binary = b"\x00\x01\x07\x08\x0f\x00\x00\x00\x00";
+    show(b"binary operator 15", binary, scratch);
+    show(
+        b"unary operator 3",
+        b"\x00\x01\x08\x08\x03\x00\x00",
+        scratch,
+    );
+}
+
+// "2 inside a field", and only then "7 for a vararg in a chunk without varargs".
+fn varargs(scratch: &mut [u32]) {
+    show(b"vararg without varargs", b"\x00\x01\x05\x00", scratch);
+    show(
+        b"vararg without varargs, its line cut",
+        b"\x00\x01\x05\x01\x01\x00\x00",
+        scratch,
+    );
+    show(b"vararg with varargs", b"\x02\x01\x05\x00", scratch);
+}
+
 fn short_scratch() {
     let bytes = b"\x00\x01\x07\x08\x00\x03\x02\x00\x00\x00\x00\x00\x00\xf0\x3f\x06\x04\x01\x00x";
     let mut none = [0u32; 0];
@@ -237,6 +276,10 @@ fn main() {
     locals(scratch);
     sum(scratch);
     kinds(scratch);
+    maps(scratch);
+    unknown_kinds(scratch);
+    unknown_operators(scratch);
+    varargs(scratch);
     short_scratch();
     longest(scratch);
 }
