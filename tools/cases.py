@@ -1,48 +1,44 @@
 #!/usr/bin/env python3
 # cases.py ORACLE OUT: writes OUT, what the program cases_test must print. ORACLE is the program of the oracle.
-# Each chunk is built here anew. Where it is accepted, words, constants and frame are those of the oracle with document 01's differences, which must be
-# the unchanged Rust's too unless the case is marked as meeting a difference; nodes are counted here. Refusals, and what is asserted, are document 01's.
-import sys,subprocess,struct
-from chunkgen import nil,true,false,num,numb,st,va,name,bi,un,call,par,chunk
+# Each chunk is built here anew. Where it is accepted, words, lines, constants and frame are those of the oracle with document 01's differences, which
+# must be the unchanged Rust's too unless the case is marked as meeting a difference; nodes are counted here. Refusals, and what is asserted, are
+# document 01's.
+import sys,subprocess
+from chunkgen import nil,true,false,num,numb,st,va,name,bi,un,call,par,chunk,places
 oracle,out=sys.argv[1:]
 o=[]
 def ask(b,*variant): return subprocess.run([oracle,*variant],input=b,stdout=subprocess.PIPE,check=True).stdout.decode().splitlines()
 def fields(w): return w&63,w>>6&255,w>>23,w>>14&511
 
-# the places of the kind bytes, by document 01's form
-CHILDREN={7:2,8:1,9:2,10:1,11:1,12:1,13:1}
-def places(b):
-    at=1
-    if b[0]&1:
-        n=b[1]; at=2
-        for _ in range(n): at+=2+struct.unpack_from('<H',b,at)[0]
-    left=b[at]; at+=1; found=[]
-    while left:
-        kind,bits=b[at],b[at+1]; found.append(at); at+=2; left+=CHILDREN.get(kind,0)-1
-        if bits&1: at+=4
-        if bits&2: at+=8
-        if bits&4: at+=2+struct.unpack_from('<H',b,at)[0]
-        if bits&8: at+=1
-        if bits&16: left+=b[at]; at+=1
-    assert at==len(b)
-    return found
+# in order: 7 times what was before and the number, modulo the prime 2^61 - 1, so that a number of 32 bits that is wrong, or has changed places, shows
+P=2**61-1
+def total(numbers):
+    s=0
+    for n in numbers: s=(s*7+n)%P
+    return f'{s:016x}'
+# a value by halves, the lower first
+def halves(values): return [h for v in values for h in (v%2**32,v>>32)]
 
 # an accepted chunk; gives its words
 def case(label,b,differs=False):
     lines=ask(b,'differences')
     assert (lines!=ask(b))==differs,label
-    words=[int(l.split()[2],16) for l in lines[1:-1] if l[0]!='c']
+    code=[l.split() for l in lines[1:-1] if l[0]!='c']
+    words=[int(w,16) for _,_,w in code]
     constants=[l.split()[1:] for l in lines[1:-1] if l[0]=='c']
     found=places(b)
+    assert lines[0].startswith(f'words {len(words)} constants {len(constants)} text ')
     o.append(label)
     o.append(f'  {lines[0]} {lines[-1]} nodes {len(found)} last place {found[-1]}, zeros')
     o.append('  words'+''.join(f' {w:08x}' for w in words[-12:]))
     o.append('  constants'+''.join(f' {k}:{v}' for k,v in constants[-3:]))
+    o.append(f'  sums: words {total(words)} lines {total(int(n) for _,n,_ in code)} kinds {total(int(k) for k,_ in constants)} '
+        f'values {total(halves(int(v,16) for _,v in constants))} places {total(found)}')
     if len(words)>1: o.append('  before Return: opcode %d A %d B %d C %d'%fields(words[-2]))
     return words
 def refused(label,number): o.extend([label,f'  refused {number}, zeros'])
 def too_complex(b): assert ask(b,'differences')==['error function or expression too complex'],ask(b,'differences')
-def constants(): return o[-2].split()[1:]
+def constants(): return next(l for l in reversed(o) if l.startswith('  constants')).split()[1:]
 x=name('x')
 
 # P1 to P12, with what document 01 says of each
@@ -50,7 +46,8 @@ w=case('P1 1 + x',chunk([bi('+',num(1),x)]))
 assert w==[0x5,0x8080000c,0x100001e] and constants()==['4:0000000000000001','3:3ff0000000000000']
 assert len(case('P2 nil',chunk([nil()])))==1
 w=case('P3 250 nils',chunk([nil()]*250)); assert len(w)==1 and fields(w[0])[2]==251
-refused('P4 251 nils',10); too_complex(chunk([nil()]*251))
+refused('P4 251 nils',10); too_complex(chunk([nil()]*251)); assert len(places(chunk([nil()]*251)))==251
+refused('P4 with a scratch of 250',9); refused('P4 with a scratch of 251',10)
 w=case('P5 ((1 or false) and true) or false',chunk([bi('or',par(bi('and',par(bi('or',num(1),false())),true())),false())]),differs=True)
 assert len(w)==10
 w=case('P6 1 / 0',chunk([bi('/',num(1),num(0))])); assert fields(w[0])==(15,0,257,256)

@@ -1,4 +1,4 @@
-# small builder of chunks (document 01), for rows and tests
+# small builder of chunks (document 01), for rows and tests; and where the nodes of a chunk stand
 import struct
 def line(l): return b'' if l is None else struct.pack('<I',l)
 def nd(k,bits,fields,l=None): return bytes([k,bits|(0 if l is None else 1)])+line(l)+fields
@@ -24,3 +24,20 @@ def chunk(fs,locals=None,varargs=False):
     h=bytes([m])
     if locals is not None: h+=bytes([len(locals)])+b''.join(txt(n) for n in locals)
     return h+bytes([len(fs)])+b''.join(fs)
+# the places of the kind bytes, by document 01's form
+CHILDREN={7:2,8:1,9:2,10:1,11:1,12:1,13:1}
+def places(b):
+    at=1
+    if b[0]&1:
+        n=b[1]; at=2
+        for _ in range(n): at+=2+struct.unpack_from('<H',b,at)[0]
+    left=b[at]; at+=1; found=[]
+    while left:
+        kind,bits=b[at],b[at+1]; found.append(at); at+=2; left+=CHILDREN.get(kind,0)-1
+        if bits&1: at+=4
+        if bits&2: at+=8
+        if bits&4: at+=2+struct.unpack_from('<H',b,at)[0]
+        if bits&8: at+=1
+        if bits&16: left+=b[at]; at+=1
+    assert at==len(b)
+    return found

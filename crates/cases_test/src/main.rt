@@ -1,6 +1,7 @@
 // The cases of document 01 over the library: P1 to P12, those that are only run, every buffer at its limit, and 131,071 words.
 // Of an accepted chunk are printed: the counts and the frame; how many places the scratch has, and the last of them; whether the buffers hold zeros
-// behind that; the last twelve words; the last three constants; and the fields of the word before `Return`. Every buffer is full of ones before.
+// behind that; the last twelve words; the last three constants; sums over all words, lines, kinds, values and places; and the fields of the word before
+// `Return`. Every buffer is full of ones before.
 // What must be printed (stdout) comes from the oracle with document 01's differences, and for refused chunks from document 01 (tools/cases.py).
 ghost use mathlib.Core.Path.{_≡_};
 ghost use lib.ListN.{length};
@@ -69,6 +70,31 @@ fn fill_values(s: &mut [u64]) {
         s[i] = 0xffff_ffff_ffff_ffff;
         i += 1;
     }
+}
+
+// The first n places, or all of them.
+fn first_words(s: &mut [u32], n: usize) -> &mut [u32] {
+    let start = 0;
+    if n <= s.len() {
+        return &mut s[start..n];
+    }
+    s
+}
+
+fn first_bytes(s: &mut [u8], n: usize) -> &mut [u8] {
+    let start = 0;
+    if n <= s.len() {
+        return &mut s[start..n];
+    }
+    s
+}
+
+fn first_values(s: &mut [u64], n: usize) -> &mut [u64] {
+    let start = 0;
+    if n <= s.len() {
+        return &mut s[start..n];
+    }
+    s
 }
 
 fn zero_words(s: &[u32], from: usize) -> bool {
@@ -215,6 +241,85 @@ fn print_places(scratch: &[u32]) {
     }
 }
 
+// ---- sums, which depend on the order
+
+// 7 times the sum and the low 32 bits of n, modulo the prime 2^61 - 1: one number that is wrong, or two that have changed places, always change it.
+fn mixed(sum: u64, n: u64) -> u64 {
+    (sum % 2305843009213693951 * 7 + n % 4294967296) % 2305843009213693951
+}
+
+fn mixed_word(sum: u64, s: &[u32], i: usize) -> u64 {
+    if i < s.len() {
+        return mixed(sum, wide(s[i]));
+    }
+    sum
+}
+
+fn mixed_byte(sum: u64, s: &[u8], i: usize) -> u64 {
+    if i < s.len() {
+        return mixed(sum, wide_byte(s[i]));
+    }
+    sum
+}
+
+// Both halves, the lower first.
+fn mixed_value(sum: u64, s: &[u64], i: usize) -> u64 {
+    if i < s.len() {
+        return mixed(mixed(sum, s[i]), s[i] >> 32);
+    }
+    sum
+}
+
+fn sum_words(s: &[u32], n: usize) -> u64 {
+    let mut sum = 0;
+    let mut i = 0;
+    while i < n {
+        sum = mixed_word(sum, s, i);
+        i += 1;
+    }
+    sum
+}
+
+fn sum_bytes(s: &[u8], n: usize) -> u64 {
+    let mut sum = 0;
+    let mut i = 0;
+    while i < n {
+        sum = mixed_byte(sum, s, i);
+        i += 1;
+    }
+    sum
+}
+
+fn sum_values(s: &[u64], n: usize) -> u64 {
+    let mut sum = 0;
+    let mut i = 0;
+    while i < n {
+        sum = mixed_value(sum, s, i);
+        i += 1;
+    }
+    sum
+}
+
+fn print_sum(label: &[u8], sum: u64) {
+    print(label);
+    io::print_hex(1, sum, 16);
+}
+
+fn print_sums(
+    counts: Counts,
+    code: &[u32],
+    lines: &[u32],
+    kinds: &[u8],
+    values: &[u64],
+    scratch: &[u32],
+) {
+    print_sum(b"\n  sums: words ", sum_words(code, counts.words));
+    print_sum(b" lines ", sum_words(lines, counts.words));
+    print_sum(b" kinds ", sum_bytes(kinds, counts.constants));
+    print_sum(b" values ", sum_values(values, counts.constants));
+    print_sum(b" places ", sum_words(scratch, places(scratch)));
+}
+
 fn print_zeros(zeros: bool) {
     if zeros {
         print(b", zeros");
@@ -265,6 +370,7 @@ fn print_done(
     print_zeros(zeros_behind(counts, code, lines, kinds, values, pool));
     print_words(code, counts.words);
     print_constants(kinds, values, counts.constants);
+    print_sums(counts, code, lines, kinds, values, scratch);
     print_before(code, counts.words);
 }
 
@@ -355,7 +461,8 @@ fn run_in(
     show(answer, code, lines, kinds, values, pool, scratch);
 }
 
-fn run(label: &[u8], chunk: &[u8]) {
+// With a scratch of so many places, or of 8,192.
+fn run_with(label: &[u8], chunk: &[u8], nodes: usize) {
     print_line(label);
     let mut code = fresh_words();
     let mut lines = fresh_words();
@@ -370,8 +477,12 @@ fn run(label: &[u8], chunk: &[u8]) {
         &mut kinds,
         &mut values,
         &mut pool,
-        &mut scratch,
+        first_words(&mut scratch, nodes),
     );
+}
+
+fn run(label: &[u8], chunk: &[u8]) {
+    run_with(label, chunk, 8192);
 }
 
 // ---- building chunks
@@ -462,6 +573,15 @@ fn after(label: &[u8], head: &[u8], numbers: u8, formula: &[u8]) {
 
 // ---- the cases
 
+// P4's 251 nodes with a scratch of so many places.
+fn scratch_case(label: &[u8], nodes: usize) {
+    let mut bytes = fresh_bytes();
+    let s: &mut [u8] = &mut bytes;
+    let mut at = put(s, 0, b"\x00\xfb");
+    at = put_times(s, at, 251, b"\x00\x00");
+    run_with(label, part(s, at), nodes);
+}
+
 fn cases_1_to_4() {
     run(
         b"P1 1 + x",
@@ -470,6 +590,8 @@ fn cases_1_to_4() {
     run(b"P2 nil", b"\x00\x01\x00\x00");
     repeated(b"P3 250 nils", b"\x00\xfa", 250, b"\x00\x00", b"");
     repeated(b"P4 251 nils", b"\x00\xfb", 251, b"\x00\x00", b"");
+    scratch_case(b"P4 with a scratch of 250", 250);
+    scratch_case(b"P4 with a scratch of 251", 251);
 }
 
 fn cases_5_to_8() {
@@ -580,31 +702,6 @@ fn operand_cases(numbers: u8) {
         numbers,
         b"\x07\x08\x0b\x06\x04\x01\x00g\x01\x00",
     );
-}
-
-// The first n places, or all of them.
-fn first_words(s: &mut [u32], n: usize) -> &mut [u32] {
-    let start = 0;
-    if n <= s.len() {
-        return &mut s[start..n];
-    }
-    s
-}
-
-fn first_bytes(s: &mut [u8], n: usize) -> &mut [u8] {
-    let start = 0;
-    if n <= s.len() {
-        return &mut s[start..n];
-    }
-    s
-}
-
-fn first_values(s: &mut [u64], n: usize) -> &mut [u64] {
-    let start = 0;
-    if n <= s.len() {
-        return &mut s[start..n];
-    }
-    s
 }
 
 // f("ab", 1.5), which takes 5 words, 3 constants, 3 bytes of text and 4 places, in buffers of these lengths.
