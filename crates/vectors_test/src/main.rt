@@ -1,5 +1,6 @@
-// Replays the oracle's list of chunks. Standard input has each chunk behind its length (four bytes, the lowest first); of each the weave list, the frame
-// and `end` are printed. stdin and stdout are made from the oracle's vectors.txt alone (tools/replay.py), so what is compared is the unchanged Rust's.
+// Replays the oracle's list of chunks. Standard input has each chunk behind its length (four bytes, the lowest first); of each are printed the weave
+// list, the frame, the counted bytes of the pool in hex (nothing behind `pool ` if there are none), how many nodes have a place in the scratch, whether
+// zeros follow, and `end`. stdin and stdout are made from the oracle's vectors.txt and the pools of the unchanged Rust (tools/replay.py).
 ghost use Prim.Native.Nat.{_≤_};
 ghost use mathlib.Core.Path.{_≡_};
 ghost use lib.ListN.{length};
@@ -8,6 +9,7 @@ use cursor::line_at;
 use listing::Listed;
 use listing::listing;
 use lowering::lower;
+use model::Counts;
 use model::Lowered;
 
 // ---- what `weavelist` lends: of a fresh buffer only the length is told
@@ -69,14 +71,127 @@ fn print_listed(listed: Listed, page: &[u8]) {
     }
 }
 
-// A refused chunk has no frame.
-fn print_frame(answer: Lowered) {
-    match answer {
-        Lowered::Done(counts) => {
-            print(b"frame ");
-            io::print_decimal(1, counts.frame as u64);
-            print(b"\n");
+fn print_number(label: &[u8], n: usize) {
+    print(label);
+    io::print_decimal(1, n as u64);
+}
+
+fn wide_byte(n: u8) -> u64 {
+    n as u64
+}
+
+fn print_bytes(s: &[u8]) {
+    let mut i = 0;
+    while i < s.len() {
+        io::print_hex(1, wide_byte(s[i]), 2);
+        i += 1;
+    }
+}
+
+// ---- what stands behind the counts
+
+fn zero_words(s: &[u32], from: usize) -> bool {
+    let mut i = from;
+    while i < s.len() {
+        if s[i] != 0 {
+            return false;
         }
+        i += 1;
+    }
+    true
+}
+
+fn zero_bytes(s: &[u8], from: usize) -> bool {
+    let mut i = from;
+    while i < s.len() {
+        if s[i] != 0 {
+            return false;
+        }
+        i += 1;
+    }
+    true
+}
+
+fn zero_values(s: &[u64], from: usize) -> bool {
+    let mut i = from;
+    while i < s.len() {
+        if s[i] != 0 {
+            return false;
+        }
+        i += 1;
+    }
+    true
+}
+
+// The end of the places, behind which all are zero: no place is 0. What is left there by another chunk makes it too large.
+fn places(scratch: &[u32]) -> usize {
+    let mut n = 0;
+    let mut i = 0;
+    while i < scratch.len() {
+        if scratch[i] != 0 {
+            n = i + 1;
+        }
+        i += 1;
+    }
+    n
+}
+
+fn zeros_behind(
+    counts: Counts,
+    code: &[u32],
+    lines: &[u32],
+    kinds: &[u8],
+    values: &[u64],
+    pool: &[u8],
+) -> bool {
+    if zero_words(code, counts.words) {
+        if zero_words(lines, counts.words) {
+            if zero_bytes(kinds, counts.constants) {
+                if zero_values(values, counts.constants) {
+                    return zero_bytes(pool, counts.text);
+                }
+            }
+        }
+    }
+    false
+}
+
+fn print_zeros(zeros: bool) {
+    if zeros {
+        print(b", zeros\n");
+        return;
+    }
+    print(b", not zeros\n");
+}
+
+fn print_done(
+    counts: Counts,
+    code: &[u32],
+    lines: &[u32],
+    kinds: &[u8],
+    values: &[u64],
+    pool: &[u8],
+    scratch: &[u32],
+) {
+    print_number(b"frame ", counts.frame);
+    print(b"\npool ");
+    print_bytes(between(pool, 0, counts.text));
+    print_number(b"\nnodes ", places(scratch));
+    print_zeros(zeros_behind(counts, code, lines, kinds, values, pool));
+}
+
+// Of a refused chunk the list says all.
+fn print_rest(
+    answer: Lowered,
+    code: &[u32],
+    lines: &[u32],
+    kinds: &[u8],
+    values: &[u64],
+    pool: &[u8],
+    scratch: &[u32],
+) {
+    match answer {
+        Lowered::Done(counts) => print_done(counts, code, lines, kinds, values, pool, scratch),
         Lowered::Refused(_) => {}
     }
 }
@@ -94,7 +209,7 @@ fn show(
     let answer = lower(chunk, code, lines, kinds, values, pool, scratch);
     let listed = listing(answer, code, lines, kinds, values, page);
     print_listed(listed, page);
-    print_frame(answer);
+    print_rest(answer, code, lines, kinds, values, pool, scratch);
     print(b"end\n");
 }
 
@@ -121,7 +236,7 @@ fn behind(list: &[u8], start: usize, n: usize) -> usize
     start
 }
 
-// The same buffers for every chunk, so that what one leaves must be cleared for the next.
+// The same buffers for every chunk, so that what one leaves must be cleared for the next: else what is printed of a shorter one isn't `zeros`.
 fn replay(
     list: &[u8],
     code: &mut [u32],
