@@ -20,5 +20,5 @@ write('weavelist_full',full,ask(full))
 long=c.chunk([name,name],locals=[])
 assert len(long)==65537 and ask(long)==ask(full)
 write('weavelist_long',long,'refused 1\n')
-# kinds end at 13
-write('weavelist_refused',c.chunk([bytes([14,0])]),'refused 4\n')
+# kinds end at 13; the last byte stays unknown if more are given a meaning
+write('weavelist_refused',c.chunk([bytes([255,0])]),'refused 4\n')
