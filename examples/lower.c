@@ -38,7 +38,7 @@ int main(void)
         0x03, 0x02, 0x00, 0x00, 0x00, 0x00, 0x00, 0x00, 0xf0, 0x3f, /* the number 1 */
         0x06, 0x04, 0x01, 0x00, 0x78, /* the name x */
     };
-    static const uint8_t unknown[] = {0x00, 0x01, 0x0e, 0x00}; /* a formula of kind 14 */
+    static const uint8_t unknown[] = {0x00, 0x01, 0xff, 0x00}; /* a formula of kind 255 */
 
     lower("1 + x", sum, sizeof sum, LEN(code));
     lower("1 + x with room for two words", sum, sizeof sum, 2);

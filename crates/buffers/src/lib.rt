@@ -1,6 +1,6 @@
 // Lent buffers: clearing them whole. What a buffer holds is a list and then zeros (specs/Pad.antt).
 ghost use mathlib.Core.Path.{_≡_};
-ghost use lib.ListN.{length, replicate};
+ghost use lib.ListN.{length};
 ghost use Rattle.buffers.specs.Pad.{zeros};
 
 pub fn clear_bytes(s: &mut [u8])

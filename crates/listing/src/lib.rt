@@ -3,12 +3,10 @@ ghost use mathlib.Core.Path.{_≡_};
 ghost use mathlib.Core.Bool.{true};
 ghost use Prim.Native.Nat.{_+_, _%_};
 ghost use lib.ListN.{length, take};
-ghost use Rattle.listing.specs.Listing.{ascii, decimal as decimalOf, hex as hexOf, glyph, word-line, constant-line, word-lines, constant-lines, count-line, refusal-line, listing as listingOf};
+ghost use Rattle.listing.specs.Listing.{decimal as decimalOf, hex as hexOf, glyph, word-line, constant-line, word-lines, constant-lines, count-line, refusal-line, listing as listingOf};
 ghost use Rattle.listing.specs.Page.{page, put as putOf, puts, left, written};
 use buffers::clear_bytes;
-use model::Counts;
 use model::Lowered;
-use refusals::Refusal;
 
 // How far a buffer is written, and whether all has fitted.
 pub struct Pen {
