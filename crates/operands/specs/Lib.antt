@@ -1,2 +1,2 @@
-pub mod Forms
+pub mod Operations
 pub mod Laws

@@ -7,7 +7,7 @@ ghost use Rattle.model.specs.Steps.{Buffers, done};
 ghost use Rattle.model.specs.Descriptor.{tagOf, isKind};
 ghost use Rattle.model.specs.Discharge.{free-expr, rk as rkOf};
 ghost use Rattle.model.specs.Operators.{free-both};
-ghost use Rattle.operands.specs.Forms.{formOf};
+ghost use Rattle.operands.specs.Operations.{operationOf};
 ghost use Rattle.operands.specs.Laws.{registerOf};
 use ast::BinOp;
 use emission::free_reg;
@@ -100,7 +100,7 @@ pub fn free_both(st: State, e1: ExprContext, e2: ExprContext) -> State
 // ---- operators
 
 // `and`, `or`, `..`, arithmetic, or a comparison: its opcode, the answer for which its jump is taken, and whether the operands change places.
-pub enum Form {
+pub enum Operation {
     And,
     Or,
     Concat,
@@ -109,24 +109,24 @@ pub enum Form {
 }
 
 // a > b is b < a, and a >= b is b <= a.
-pub fn form_of(op: BinOp) -> Form
-    ensures { λ r. ⌜ formOf op ≡ r ⌝ }
+pub fn operation_of(op: BinOp) -> Operation
+    ensures { λ r. ⌜ operationOf op ≡ r ⌝ }
 {
     match op {
-        BinOp::Add => Form::Arithmetic(Arith::Add),
-        BinOp::Sub => Form::Arithmetic(Arith::Sub),
-        BinOp::Mul => Form::Arithmetic(Arith::Mul),
-        BinOp::Div => Form::Arithmetic(Arith::Div),
-        BinOp::Mod => Form::Arithmetic(Arith::Mod),
-        BinOp::Pow => Form::Arithmetic(Arith::Pow),
-        BinOp::Concat => Form::Concat,
-        BinOp::Lt => Form::Comparison(OpCode::Lt, true, false),
-        BinOp::Le => Form::Comparison(OpCode::Le, true, false),
-        BinOp::Gt => Form::Comparison(OpCode::Lt, true, true),
-        BinOp::Ge => Form::Comparison(OpCode::Le, true, true),
-        BinOp::Eq => Form::Comparison(OpCode::Eq, true, false),
-        BinOp::Ne => Form::Comparison(OpCode::Eq, false, false),
-        BinOp::And => Form::And,
-        BinOp::Or => Form::Or,
+        BinOp::Add => Operation::Arithmetic(Arith::Add),
+        BinOp::Sub => Operation::Arithmetic(Arith::Sub),
+        BinOp::Mul => Operation::Arithmetic(Arith::Mul),
+        BinOp::Div => Operation::Arithmetic(Arith::Div),
+        BinOp::Mod => Operation::Arithmetic(Arith::Mod),
+        BinOp::Pow => Operation::Arithmetic(Arith::Pow),
+        BinOp::Concat => Operation::Concat,
+        BinOp::Lt => Operation::Comparison(OpCode::Lt, true, false),
+        BinOp::Le => Operation::Comparison(OpCode::Le, true, false),
+        BinOp::Gt => Operation::Comparison(OpCode::Lt, true, true),
+        BinOp::Ge => Operation::Comparison(OpCode::Le, true, true),
+        BinOp::Eq => Operation::Comparison(OpCode::Eq, true, false),
+        BinOp::Ne => Operation::Comparison(OpCode::Eq, false, false),
+        BinOp::And => Operation::And,
+        BinOp::Or => Operation::Or,
     }
 }

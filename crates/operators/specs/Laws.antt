@@ -32,11 +32,11 @@ use Rattle.model.specs.Discharge.{discharge-vars, free-expr, exp2nextreg, exp2a
 use Rattle.model.specs.Conditions.{goiftrue, goiffalse, code-not, bit}
 use Rattle.model.specs.Operators.{arithOp, const-fold, with-number, unless-folded, free-both, emit-arith, code-arith, code-unary, code-concat, is-far, far-numeral, compare-operands, either, emit-comp, code-comp, operand, before-right, code-and, code-or, join-concat, after-right, code-unop}
 use Rattle.emission.specs.Laws.{branch, then-done, then-refused}
-use Rattle.operands.specs.Forms.{formOf}
+use Rattle.operands.specs.Operations.{operationOf}
 use Rattle.conditions.specs.Parts.{relocable, unary, tested}
 use Rattle.discharge.specs.Bringing.{rk-stays}
-use Rattle.operands.specs.declared.Form.{Form}
-use Rattle.operands.specs.declared.Form.the-variants.{And, Or, Concat, Arithmetic, Comparison}
+use Rattle.operands.specs.declared.Operation.{Operation}
+use Rattle.operands.specs.declared.Operation.the-variants.{And, Or, Concat, Arithmetic, Comparison}
 use Rattle.operators.specs.Parts.{chosen, arith-of, arith-left, jump-of, comp-second, concat-word, concat-left, joined-to}
 
 -- ---- folding
@@ -224,18 +224,18 @@ module _ (e : ExprContext) (s : State) (m : Buffers) where
   operand-goes h = ap (λ (b : Bool). branch b (λ (a : State) (k : Buffers). done e a k) (exp2rk e) s m) h
 
 -- by what an operator is to its operands
-abbrev pub before : Form → ExprContext → Step ExprContext
+abbrev pub before : Operation → ExprContext → Step ExprContext
 before And e = goiftrue e
 before Or e = goiffalse e
 before Concat e = exp2nextreg e
 before (Arithmetic o) e = operand e
 before (Comparison o cond swapped) e = operand e
 
-pub before-is : (o : BinOp) (e : ExprContext) (s : State) (m : Buffers) {f : Form} → formOf o ≡ f → before-right o e s m ≡ before f e s m
+pub before-is : (o : BinOp) (e : ExprContext) (s : State) (m : Buffers) {f : Operation} → operationOf o ≡ f → before-right o e s m ≡ before f e s m
 unfolding before-right
-before-is o e s m q = go o ∙ ap (λ (f : Form). before f e s m) q
+before-is o e s m q = go o ∙ ap (λ (f : Operation). before f e s m) q
   where
-    go : (o : BinOp) → before-right o e s m ≡ before (formOf o) e s m
+    go : (o : BinOp) → before-right o e s m ≡ before (operationOf o) e s m
     go bin.Add = refl
     go bin.Sub = refl
     go bin.Mul = refl
@@ -252,18 +252,18 @@ before-is o e s m q = go o ∙ ap (λ (f : Form). before f e s m) q
     go bin.And = refl
     go bin.Or = refl
 
-abbrev pub after : Form → ExprContext → ExprContext → Step ExprContext
+abbrev pub after : Operation → ExprContext → ExprContext → Step ExprContext
 after And e₁ e₂ = code-and e₁ e₂
 after Or e₁ e₂ = code-or e₁ e₂
 after Concat e₁ e₂ = join-concat e₁ e₂
 after (Arithmetic o) e₁ e₂ = code-arith o e₁ e₂
 after (Comparison o cond swapped) e₁ e₂ = code-comp o cond swapped e₁ e₂
 
-pub after-is : (o : BinOp) (e₁ e₂ : ExprContext) (s : State) (m : Buffers) {f : Form} → formOf o ≡ f → after-right o e₁ e₂ s m ≡ after f e₁ e₂ s m
+pub after-is : (o : BinOp) (e₁ e₂ : ExprContext) (s : State) (m : Buffers) {f : Operation} → operationOf o ≡ f → after-right o e₁ e₂ s m ≡ after f e₁ e₂ s m
 unfolding after-right
-after-is o e₁ e₂ s m q = go o ∙ ap (λ (f : Form). after f e₁ e₂ s m) q
+after-is o e₁ e₂ s m q = go o ∙ ap (λ (f : Operation). after f e₁ e₂ s m) q
   where
-    go : (o : BinOp) → after-right o e₁ e₂ s m ≡ after (formOf o) e₁ e₂ s m
+    go : (o : BinOp) → after-right o e₁ e₂ s m ≡ after (operationOf o) e₁ e₂ s m
     go bin.Add = refl
     go bin.Sub = refl
     go bin.Mul = refl

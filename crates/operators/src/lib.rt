@@ -43,11 +43,11 @@ use model::ExprKind;
 use model::Given;
 use model::State;
 use opcodes::OpCode;
-use operands::Form;
-use operands::form_of;
+use operands::Operation;
 use operands::free_both;
 use operands::free_expr;
 use operands::is_kind;
+use operands::operation_of;
 use operands::rk;
 
 // ---- folding
@@ -463,11 +463,11 @@ pub fn infix(
 ) -> Described
     ensures { λ r. ⌜ before-right op e st (bufs (now (code .entry)) (now (lines .entry)) (now (kinds .entry)) (now (values .entry)) (now (pool .entry))) ≡ describedIs r (bufs (now (code .exit)) (now (lines .exit)) (now (kinds .exit)) (now (values .exit)) (now (pool .exit))) ⌝ }
 {
-    let f = form_of(op);
+    let f = operation_of(op);
     match f {
-        Form::And => goiftrue(code, lines, kinds, values, pool, st, e),
-        Form::Or => goiffalse(code, lines, kinds, values, pool, st, e),
-        Form::Concat => exp2nextreg(code, lines, kinds, values, pool, st, e),
+        Operation::And => goiftrue(code, lines, kinds, values, pool, st, e),
+        Operation::Or => goiffalse(code, lines, kinds, values, pool, st, e),
+        Operation::Concat => exp2nextreg(code, lines, kinds, values, pool, st, e),
         _ => operand(code, lines, kinds, values, pool, st, e),
     }
 }
@@ -570,13 +570,13 @@ pub fn postfix(
 ) -> Described
     ensures { λ r. ⌜ after-right op e1 e2 st (bufs (now (code .entry)) (now (lines .entry)) (now (kinds .entry)) (now (values .entry)) (now (pool .entry))) ≡ describedIs r (bufs (now (code .exit)) (now (lines .exit)) (now (kinds .exit)) (now (values .exit)) (now (pool .exit))) ⌝ }
 {
-    let f = form_of(op);
+    let f = operation_of(op);
     match f {
-        Form::And => code_and(code, lines, st, e1, e2),
-        Form::Or => code_or(code, lines, st, e1, e2),
-        Form::Concat => join_concat(code, lines, kinds, values, pool, st, e1, e2),
-        Form::Arithmetic(a) => code_arith(code, lines, kinds, values, pool, st, a, e1, e2),
-        Form::Comparison(o, cond, swapped) => {
+        Operation::And => code_and(code, lines, st, e1, e2),
+        Operation::Or => code_or(code, lines, st, e1, e2),
+        Operation::Concat => join_concat(code, lines, kinds, values, pool, st, e1, e2),
+        Operation::Arithmetic(a) => code_arith(code, lines, kinds, values, pool, st, a, e1, e2),
+        Operation::Comparison(o, cond, swapped) => {
             code_comp(
                 code,
                 lines,

@@ -9,24 +9,24 @@ use Rattle.model.specs.declared.ExprContext.{ExprContext}
 use Rattle.model.specs.declared.State.{State}
 use Rattle.model.specs.Steps.{Buffers}
 use Rattle.model.specs.Operators.{operand}
-use Rattle.operands.specs.declared.Form.{Form}
-use Rattle.operands.specs.declared.Form.the-variants.{And, Or, Concat, Arithmetic, Comparison}
+use Rattle.operands.specs.declared.Operation.{Operation}
+use Rattle.operands.specs.declared.Operation.the-variants.{And, Or, Concat, Arithmetic, Comparison}
 use Rattle.operators.specs.Laws.{before, before-is}
-use Rattle.operands.proofs.Form.{the-type}
+use Rattle.operands.proofs.Operation.{the-type}
 use borrow.Author.Needs.{needs}
 use Rattle.operators.proofs.infix.Statement.{statement}
 use Rattle.operators.proofs.infix.Tie as tie
 
 -- the last two forms take an operand
-others : (f : Form) (e : ExprContext) (s : State) (m : Buffers) → OneOf (3 ∷ 4 ∷ []) (tagOf the-type f) → before f e s m ≡ operand e s m
+others : (f : Operation) (e : ExprContext) (s : State) (m : Buffers) → OneOf (3 ∷ 4 ∷ []) (tagOf the-type f) → before f e s m ≡ operand e s m
 others And e s m h = absurd (⊎-elim (λ q. omega arith) (λ q. omega arith) h)
 others Or e s m h = absurd (⊎-elim (λ q. omega arith) (λ q. omega arith) h)
 others Concat e s m h = absurd (⊎-elim (λ q. omega arith) (λ q. omega arith) h)
 others (Arithmetic o) e s m h = refl
 others (Comparison o cond swapped) e s m h = refl
 
-form-of-requires : tie.Need-form-of-requires
-form-of-requires c κs = search needs
+operation-of-requires : tie.Need-operation-of-requires
+operation-of-requires c κs = search needs
 
 enum-told : tie.Need-enum-told
 enum-told c = search needs
@@ -79,7 +79,7 @@ returns c =
     let p10 = c .before .before .before .before .before .before .before .before .before .before in
     let p16 = p10 .before .before .before .before .before .before in
     let p18 = p16 .before .before in
-    before-is _ _ _ _ ((p18 .form-of .ensures) ∙ (p16 .enum-told .given .1)) ∙ (p10 .goiftrue .ensures)
+    before-is _ _ _ _ ((p18 .operation-of .ensures) ∙ (p16 .enum-told .given .1)) ∙ (p10 .goiftrue .ensures)
 
 same-length-6 : tie.Need-same-length-6
 same-length-6 c =
@@ -111,7 +111,7 @@ returns-2 c =
     let p10 = c .before .before .before .before .before .before .before .before .before .before in
     let p16 = p10 .before .before .before .before .before .before in
     let p18 = p16 .before .before in
-    before-is _ _ _ _ ((p18 .form-of .ensures) ∙ (p16 .enum-told2 .given .1)) ∙ (p10 .goiffalse .ensures)
+    before-is _ _ _ _ ((p18 .operation-of .ensures) ∙ (p16 .enum-told2 .given .1)) ∙ (p10 .goiffalse .ensures)
 
 same-length-11 : tie.Need-same-length-11
 same-length-11 c =
@@ -143,7 +143,7 @@ returns-3 c =
     let p10 = c .before .before .before .before .before .before .before .before .before .before in
     let p16 = p10 .before .before .before .before .before .before in
     let p18 = p16 .before .before in
-    before-is _ _ _ _ ((p18 .form-of .ensures) ∙ (p16 .enum-told3 .given .1)) ∙ (p10 .exp2nextreg .ensures)
+    before-is _ _ _ _ ((p18 .operation-of .ensures) ∙ (p16 .enum-told3 .given .1)) ∙ (p10 .exp2nextreg .ensures)
 
 same-length-16 : tie.Need-same-length-16
 same-length-16 c =
@@ -175,13 +175,13 @@ returns-4 c =
     let p10 = c .before .before .before .before .before .before .before .before .before .before in
     let p16 = p10 .before .before .before .before .before .before in
     let p17 = p16 .before in
-    before-is _ _ _ _ (p17 .form-of .ensures) ∙ others (p17 .form-of .result) _ _ _ (p16 .match .keys4) ∙ (p10 .operand .ensures)
+    before-is _ _ _ _ (p17 .operation-of .ensures) ∙ others (p17 .operation-of .result) _ _ _ (p16 .match .keys4) ∙ (p10 .operand .ensures)
 
 pub infix-spec : {M : Type 1} → statement M
 infix-spec =
     tie.close
     (tie.spec
-    form-of-requires
+    operation-of-requires
     enum-told
     goiftrue-requires
     enum-told-2

@@ -6,8 +6,8 @@ use borrow.Author.Needs.{needs}
 use Rattle.operators.proofs.postfix.Statement.{statement}
 use Rattle.operators.proofs.postfix.Tie as tie
 
-form-of-requires : tie.Need-form-of-requires
-form-of-requires c κs = search needs
+operation-of-requires : tie.Need-operation-of-requires
+operation-of-requires c κs = search needs
 
 enum-told : tie.Need-enum-told
 enum-told c = search needs
@@ -54,7 +54,7 @@ returns c =
     let p4 = c .before .before .before .before in
     let p7 = p4 .before .before .before in
     let p9 = p7 .before .before in
-    after-is _ _ _ _ _ ((p9 .form-of .ensures) ∙ (p7 .enum-told .given .1)) ∙ (p4 .code-and .ensures) _ _ _
+    after-is _ _ _ _ _ ((p9 .operation-of .ensures) ∙ (p7 .enum-told .given .1)) ∙ (p4 .code-and .ensures) _ _ _
 
 same-length-3 : tie.Need-same-length-3
 same-length-3 c =
@@ -71,7 +71,7 @@ returns-2 c =
     let p4 = c .before .before .before .before in
     let p7 = p4 .before .before .before in
     let p9 = p7 .before .before in
-    after-is _ _ _ _ _ ((p9 .form-of .ensures) ∙ (p7 .enum-told2 .given .1)) ∙ (p4 .code-or .ensures) _ _ _
+    after-is _ _ _ _ _ ((p9 .operation-of .ensures) ∙ (p7 .enum-told2 .given .1)) ∙ (p4 .code-or .ensures) _ _ _
 
 same-length-5 : tie.Need-same-length-5
 same-length-5 c =
@@ -103,7 +103,7 @@ returns-3 c =
     let p10 = c .before .before .before .before .before .before .before .before .before .before in
     let p16 = p10 .before .before .before .before .before .before in
     let p18 = p16 .before .before in
-    after-is _ _ _ _ _ ((p18 .form-of .ensures) ∙ (p16 .enum-told3 .given .1)) ∙ (p10 .join-concat .ensures)
+    after-is _ _ _ _ _ ((p18 .operation-of .ensures) ∙ (p16 .enum-told3 .given .1)) ∙ (p10 .join-concat .ensures)
 
 same-length-10 : tie.Need-same-length-10
 same-length-10 c =
@@ -135,7 +135,7 @@ returns-4 c =
     let p10 = c .before .before .before .before .before .before .before .before .before .before in
     let p17 = p10 .before .before .before .before .before .before .before in
     let p19 = p17 .before .before in
-    after-is _ _ _ _ _ ((p19 .form-of .ensures) ∙ (p17 .f .given .1)) ∙ (p10 .code-arith .ensures)
+    after-is _ _ _ _ _ ((p19 .operation-of .ensures) ∙ (p17 .f .given .1)) ∙ (p10 .code-arith .ensures)
 
 same-length-15 : tie.Need-same-length-15
 same-length-15 c =
@@ -167,13 +167,13 @@ returns-5 c =
     let p10 = c .before .before .before .before .before .before .before .before .before .before in
     let p17 = p10 .before .before .before .before .before .before .before in
     let p19 = p17 .before .before in
-    after-is _ _ _ _ _ ((p19 .form-of .ensures) ∙ (p17 .f2 .given .1)) ∙ (p10 .code-comp .ensures)
+    after-is _ _ _ _ _ ((p19 .operation-of .ensures) ∙ (p17 .f2 .given .1)) ∙ (p10 .code-comp .ensures)
 
 pub postfix-spec : {M : Type 1} → statement M
 postfix-spec =
     tie.close
     (tie.spec
-    form-of-requires
+    operation-of-requires
     enum-told
     code-and-requires
     enum-told-2

@@ -1,7 +1,7 @@
--- `operands::form_of` meets its contract, operator by operator. Assumes nothing.
+-- `operands::operation_of` meets its contract, operator by operator. Assumes nothing.
 use borrow.Author.Needs.{needs}
-use Rattle.operands.proofs.form_of.Statement.{statement}
-use Rattle.operands.proofs.form_of.Tie as tie
+use Rattle.operands.proofs.operation_of.Statement.{statement}
+use Rattle.operands.proofs.operation_of.Tie as tie
 
 enum-told : tie.Need-enum-told
 enum-told c = search needs
@@ -93,8 +93,8 @@ returns-14 c = rw ((c .enum-told14 .given .1))
 returns-15 : tie.Need-returns-15
 returns-15 c = rw ((c .enum-told15 .given .1))
 
-pub form-of-spec : {M : Type 1} → statement M
-form-of-spec =
+pub operation-of-spec : {M : Type 1} → statement M
+operation-of-spec =
     tie.close
     (tie.spec
     enum-told
