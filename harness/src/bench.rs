@@ -95,9 +95,9 @@ pub fn run(only: Option<&str>) -> i32 {
                 let calls = (40_000 / n).max(1);
                 let (mut a, mut b, mut c, mut d) = (Vec::new(), Vec::new(), Vec::new(), Vec::new());
                 for round in 0..ROUNDS {
-                    // each round begins with another column, so that none always follows the same one
+                    // forwards and backwards, each time from another column on, so that none always follows the same one
                     for turn in 0..4 {
-                        match (round + turn) % 4 {
+                        match (round + if round % 2 == 0 { turn } else { 4 - turn }) % 4 {
                             0 => a.push(time(calls, || { black_box(small.lower(black_box(&bytes))); })),
                             1 => c.push(time(calls, || { let _ = black_box(codegen::drive::drive(&tree.locals, tree.varargs, black_box(&tree.formulas))); })),
                             2 => b.push(time(calls, || { black_box(weavelist.lower(black_box(&bytes))); })),
