@@ -3,15 +3,15 @@
 use mathlib.Core.Path.{_≡_, refl, sym, ap, _∙_, fun-ext}
 use mathlib.Core.Bool.{Bool, true, false, _&&_, and-true, and-false, false≢true}
 use mathlib.Core.List.{List, [], _∷_}
-use Prim.Native.Nat.{ℕ, zero, suc, _+_, _*_, _-_, _%_, _≤_, _<_, min}
+use Prim.Native.Nat.{ℕ, zero, suc, _+_, _*_, _-_, _/_, _%_, _≤_, _<_, min}
 use native.Mathlib.Nat.{zero-min, min-zero}
 use native.Mathlib.Numerals.{add-one}
 use native.Mathlib.Omega.{arith}
 use lib.ListN.{length, getD, take, drop, set, drop-of-length-le, length-drop}
-use lib.Seq.{drop-cons, take-nil, take-all, length-take-le, sets}
+use lib.Seq.{drop-cons, take-nil, take-all, length-take-le, getD-take, getD-drop, sets}
 use lib.Dec.{eqb, leb}
 use borrow.Author.Count.{below-more}
-use borrow.Author.Tests.{eqb-true, eqb-false}
+use borrow.Author.Tests.{eqb-true, eqb-false, eq-eqb, le-leb, leb-true, leb-false}
 use Rattle.laws.specs.Truth.{or-false}
 use Rattle.refusals.specs.declared.Refusal.the-variants.{Pool}
 use Rattle.constants.specs.declared.Val.{Val}
@@ -21,10 +21,11 @@ use Rattle.constants.specs.declared.Found.{Found}
 use Rattle.constants.specs.declared.Found.the-variants.{At, Nothing}
 use Rattle.constants.specs.declared.Added.{Added}
 use Rattle.constants.specs.declared.Added.the-variants as Added-variants
-use Rattle.constants.specs.Entry.{Constant, truth, constantOf, entryOf, isConstant, same, holds, kind-of}
+use Rattle.constants.specs.Entry.{Constant, truth, constantOf, entryOf, isConstant, same, sameBytes, holds, kind-of}
 use Rattle.constants.specs.Fours.{fourOf, FourBytes, inFour, Without}
+use Rattle.constants.specs.Texts.{tailOf, endsAlike}
 use Rattle.constants.specs.Table.{find, later, stored, storedText, append, out}
-use Rattle.constants.specs.Laws.{find-hit, find-miss, find-at, other-kind}
+use Rattle.constants.specs.Laws.{sameBytes-refl, sameBytes-false, find-hit, find-miss, find-at, other-kind}
 
 -- ---- bytes compared
 
@@ -76,6 +77,66 @@ module _ (pool chunk : List ℕ) (v : Val) where
   unfolding entryOf same
   holds-truth true e q k w = holds-kind (truth true) e k w ∙ ap (eqb k) q
   holds-truth false e q k w = holds-kind (truth false) e k w ∙ ap (eqb k) q
+
+-- ---- a part of a slice
+
+-- two lengths that both go to the end give the same part
+pub part-ends : (s : List ℕ) (start m n : ℕ) → length s - start ≤ m → length s - start ≤ n → take m (drop start s) ≡ take n (drop start s)
+part-ends s start m n h g = take-all m (drop start s) (rw length-drop h) ∙ sym (take-all n (drop start s) (rw length-drop g))
+
+-- a part that lies in the slice is as long as it is meant to be
+pub part-length : (s : List ℕ) (start len : ℕ) → start + len ≤ length s → length (take len (drop start s)) ≡ len
+part-length s start len h = length-take-le len (drop start s) (rw length-drop (omega arith))
+
+-- two starts at or behind the end give the empty part
+pub part-outside : (s : List ℕ) (i j m n : ℕ) → length s ≤ i → length s ≤ j → take m (drop i s) ≡ take n (drop j s)
+part-outside s i j m n h g = rw (drop-of-length-le s h, drop-of-length-le s g) (take-nil m ∙ sym (take-nil n))
+
+-- ---- texts passed over
+
+-- the part up to the end is all that lies behind the start
+pub part-rest : (s : List ℕ) (start : ℕ) → take (length s - start) (drop start s) ≡ drop start s
+part-rest s start = take-all (length s - start) (drop start s) (rw length-drop (omega arith))
+
+module _ (pool text : List ℕ) where
+  -- a pool that is shorter than a text doesn't end in it
+  pub no-tail : length pool < length text → sameBytes (tailOf (length text) pool) text ≡ false
+  no-tail h = sameBytes-false _ _ λ e. let q : length pool - (length pool - length text) ≡ length text = sym (length-drop (length pool - length text) pool) ∙ ap length e in omega arith
+
+  module _ (start n : ℕ) (e : take n (drop start pool) ≡ text) where
+    -- bytes of a text that is a part of the pool
+    in-pool : (i : ℕ) → i < n → getD pool (start + i) 0 ≡ getD text i 0
+    in-pool i h = sym (getD-drop start pool i 0) ∙ sym (getD-take n (drop start pool) i 0 h) ∙ ap (λ l. getD l i 0) e
+
+    four-in-pool : (i : ℕ) → i + 3 < n → fourOf pool (start + i) ≡ fourOf text i
+    four-in-pool i h =
+        let s₁ : start + i + 1 ≡ start + (i + 1) = omega arith in
+        let s₂ : start + i + 2 ≡ start + (i + 2) = omega arith in
+        let s₃ : start + i + 3 ≡ start + (i + 3) = omega arith in
+        rw (s₁, s₂, s₃, in-pool i (omega arith), in-pool (i + 1) (omega arith), in-pool (i + 2) (omega arith), in-pool (i + 3) h)
+
+    -- one that the pool's end cuts off is the pool's tail
+    cut-off : length pool < start + n → 0 < length text → tailOf (length text) pool ≡ text
+    cut-off h l =
+        let whole : drop start pool ≡ text = sym (take-all n (drop start pool) (rw length-drop (omega arith))) ∙ e in
+        let q : length pool - start ≡ length text = sym (length-drop start pool) ∙ ap length whole in
+        let s : length pool - length text ≡ start = omega arith in
+        rw s whole
+
+  -- where the pool doesn't end in the text, an entry of another length or ending isn't the text
+  pub not-alike : (w : ℕ) → 4 ≤ length text → sameBytes (tailOf (length text) pool) text ≡ false → endsAlike pool (length text) (fourOf text (length text - 4)) w ≡ false →
+      sameBytes (take (w % 65536) (drop (w / 65536) pool)) text ≡ false
+  not-alike w long other differs = sameBytes-false _ _ (go (leb (w / 65536 + w % 65536) (length pool)) refl)
+    where
+      go : (b : Bool) → leb (w / 65536 + w % 65536) (length pool) ≡ b → take (w % 65536) (drop (w / 65536) pool) ≡ text → ⊥
+      go false h e =
+          false≢true (sym other ∙ ap (λ l. sameBytes l text) (cut-off (w / 65536) (w % 65536) e (leb-false _ _ h) (omega arith)) ∙ sameBytes-refl text)
+      go true h e =
+          let inside : w / 65536 + w % 65536 ≤ length pool = leb-true _ _ h in
+          let n : w % 65536 ≡ length text = sym (part-length pool (w / 65536) (w % 65536) inside) ∙ ap length e in
+          let s : w / 65536 + length text - 4 ≡ w / 65536 + (length text - 4) = omega arith in
+          let four : fourOf pool (w / 65536 + length text - 4) ≡ fourOf text (length text - 4) = rw s (four-in-pool (w / 65536) (w % 65536) e (length text - 4) (omega arith)) in
+          false≢true (sym differs ∙ rw (eq-eqb _ _ n, le-leb (w / 65536 + length text) (length pool) (omega arith), eq-eqb _ _ four))
 
 -- ---- entries searched
 
@@ -137,20 +198,6 @@ sets-step to from at i h =
 
 pub sets-end : (to from : List ℕ) (at i : ℕ) → length from ≤ i → sets to at (drop i from) ≡ to
 sets-end to from at i h = rw (drop-of-length-le from h)
-
--- ---- a part of a slice
-
--- two lengths that both go to the end give the same part
-pub part-ends : (s : List ℕ) (start m n : ℕ) → length s - start ≤ m → length s - start ≤ n → take m (drop start s) ≡ take n (drop start s)
-part-ends s start m n h g = take-all m (drop start s) (rw length-drop h) ∙ sym (take-all n (drop start s) (rw length-drop g))
-
--- a part that lies in the slice is as long as it is meant to be
-pub part-length : (s : List ℕ) (start len : ℕ) → start + len ≤ length s → length (take len (drop start s)) ≡ len
-part-length s start len h = length-take-le len (drop start s) (rw length-drop (omega arith))
-
--- two starts at or behind the end give the empty part
-pub part-outside : (s : List ℕ) (i j m n : ℕ) → length s ≤ i → length s ≤ j → take m (drop i s) ≡ take n (drop j s)
-part-outside s i j m n h g = rw (drop-of-length-le s h, drop-of-length-le s g) (take-nil m ∙ sym (take-nil n))
 
 -- ---- a constant added: each law's hypotheses are in the code's order
 

@@ -1,6 +1,7 @@
 pub mod Entry
 pub mod Table
 pub mod Fours
+pub mod Texts
 pub mod Laws
 pub mod Distinct
 pub mod Rows

@@ -1,7 +1,7 @@
 // The constant table over lent kinds, values and pool: the search, and adding what is not there yet (rilua's value.rs, proto.rs and `add_constant`, `string_constant`, `nil_constant`).
 ghost use mathlib.Core.Path.{_≡_};
 ghost use mathlib.Core.List.{List};
-ghost use mathlib.Core.Bool.{_||_, _&&_};
+ghost use mathlib.Core.Bool.{false, _||_, _&&_};
 ghost use Prim.Native.Nat.{ℕ, _+_, _*_, _/_, _%_, _≤_, _<_, min};
 ghost use lib.ListN.{length};
 ghost use lib.Seq.{sets};
@@ -9,6 +9,7 @@ ghost use lib.Dec.{eqb, leb};
 ghost use Rattle.instructions.specs.Limits.{maxConstants};
 ghost use Rattle.constants.specs.Entry.{truth, number, constantOf, kind-of, part as partOf, sameBytes, holds};
 ghost use Rattle.constants.specs.Fours.{fourOf, FourBytes, inFour, Without};
+ghost use Rattle.constants.specs.Texts.{isText, tailOf, endsAlike};
 ghost use Rattle.constants.specs.Table.{find as findIn, stored, storedText, append as appended, added, out};
 use instructions::MAX_CONSTANTS;
 use refusals::Refusal;
@@ -187,10 +188,38 @@ fn is_text(value: u64, pool: &[u8], text: &[u8]) -> bool
     same_bytes(&pool[at..end], text)
 }
 
-// Of the first `n` entries the first that is `text`.
-fn find_text(kinds: &[u8], values: &[u64], pool: &[u8], n: usize, text: &[u8]) -> Found
+// Whether the pool's last bytes are `text`.
+fn at_end(pool: &[u8], text: &[u8]) -> bool
+    ensures { λ r. ⌜ sameBytes (tailOf (length (now (text .entry))) (now (pool .entry))) (now (text .entry)) ≡ r ⌝ }
+{
+    let n = text.len();
+    let size = pool.len();
+    if size < n {
+        return false;
+    }
+    let from = size - n;
+    same_bytes(&pool[from..], text)
+}
+
+// Whether a text's entry of this value has this length and these last four bytes.
+fn ends_alike(value: u64, pool: &[u8], len: usize, last: u32) -> bool
+    requires { ⌜ 4 ≤ len ⌝ }
+    ensures { λ r. ⌜ endsAlike (now (pool .entry)) len last value ≡ r ⌝ }
+{
+    if (value % 65536) as usize != len {
+        return false;
+    }
+    let end = (value / 65536) as usize + len;
+    if pool.len() < end {
+        return false;
+    }
+    four(pool, end - 4) == last
+}
+
+// Of the first `n` entries the first that is `text`, each text compared.
+fn find_each(kinds: &[u8], values: &[u64], pool: &[u8], n: usize, text: &[u8]) -> Found
     requires { ⌜ (n ≤ length (now kinds)) × (n ≤ length (now values)) ⌝ }
-    ensures { λ r. ⌜ findIn (λ k w. sameBytes (partOf (now (pool .entry)) (w / 65536) (w % 65536)) (now (text .entry)) && eqb k 4) n (now (kinds .entry)) (now (values .entry)) ≡ r ⌝ }
+    ensures { λ r. ⌜ findIn (isText (now (pool .entry)) (now (text .entry))) n (now (kinds .entry)) (now (values .entry)) ≡ r ⌝ }
 {
     let mut i = 0;
     while i < n {
@@ -202,6 +231,41 @@ fn find_text(kinds: &[u8], values: &[u64], pool: &[u8], n: usize, text: &[u8]) -
         i += 1;
     }
     Found::Nothing
+}
+
+// The same, and only texts compared that end as `text` does. A text that the pool's end cuts off isn't as long as its entry says, so it would be passed over; none such is `text` where the pool's last bytes aren't.
+fn find_alike(kinds: &[u8], values: &[u64], pool: &[u8], n: usize, text: &[u8]) -> Found
+    requires { ⌜ (n ≤ length (now kinds)) × (n ≤ length (now values)) × (4 ≤ length (now text)) × (sameBytes (tailOf (length (now text)) (now pool)) (now text) ≡ false) ⌝ }
+    ensures { λ r. ⌜ findIn (isText (now (pool .entry)) (now (text .entry))) n (now (kinds .entry)) (now (values .entry)) ≡ r ⌝ }
+{
+    let len = text.len();
+    let last = four(text, len - 4);
+    let mut i = 0;
+    while i < n {
+        if ends_alike(values[i], pool, len, last) {
+            if kinds[i] == 4 {
+                if is_text(values[i], pool, text) {
+                    return Found::At(i);
+                }
+            }
+        }
+        i += 1;
+    }
+    Found::Nothing
+}
+
+// Of the first `n` entries the first that is `text`.
+fn find_text(kinds: &[u8], values: &[u64], pool: &[u8], n: usize, text: &[u8]) -> Found
+    requires { ⌜ (n ≤ length (now kinds)) × (n ≤ length (now values)) ⌝ }
+    ensures { λ r. ⌜ findIn (isText (now (pool .entry)) (now (text .entry))) n (now (kinds .entry)) (now (values .entry)) ≡ r ⌝ }
+{
+    if text.len() < 4 {
+        return find_each(kinds, values, pool, n, text);
+    }
+    if at_end(pool, text) {
+        return find_each(kinds, values, pool, n, text);
+    }
+    find_alike(kinds, values, pool, n, text)
 }
 
 // The first of the first `count` entries that is the constant v. What stands at or above the count is never looked at.
