@@ -4,24 +4,12 @@ use mathlib.Core.Path.{_≡_, refl, ap, _∙_}
 use mathlib.Core.List.{List, [], _∷_}
 use native.Mathlib.Omega.{arith}
 use lib.ListN.{getD, take}
+use lib.Seq.{getD-take, take-take}
 use Rattle.constants.specs.Entry.{text, part, entryOf, constantAt, Inside}
 use mathlib.Core.Option.{some}
 
-pub take-entry : (n : ℕ) (l : List ℕ) (i : ℕ) → i < n → getD (take n l) i 0 ≡ getD l i 0
-take-entry zero l i h = absurd (omega arith)
-take-entry (suc n) [] i h = refl
-take-entry (suc n) (x ∷ l) zero h = refl
-take-entry (suc n) (x ∷ l) (suc i) h = take-entry n l i (omega arith)
-
--- what of a list lies in its first n numbers
-take-less : (n k : ℕ) (l : List ℕ) → k ≤ n → take k (take n l) ≡ take k l
-take-less n zero l h = refl
-take-less zero (suc k) l h = absurd (omega arith)
-take-less (suc n) (suc k) [] h = refl
-take-less (suc n) (suc k) (x ∷ l) h = ap (λ y. x ∷ y) (take-less n k l (omega arith))
-
 take-part : (n : ℕ) (l : List ℕ) (start len : ℕ) → start + len ≤ n → part (take n l) start len ≡ part l start len
-take-part n l zero len h = take-less n len l (omega arith)
+take-part n l zero len h = take-take len n l (omega arith)
 take-part zero l (suc start) len h = absurd (omega arith)
 take-part (suc n) [] (suc start) len h = refl
 take-part (suc n) (x ∷ l) (suc start) len h = take-part n l start len (omega arith)
@@ -37,4 +25,4 @@ take-text used pool (suc (suc (suc (suc (suc k))))) w h = refl
 
 pub counted : (n used : ℕ) (pool ks ws : List ℕ) (i : ℕ) → i < n → (getD ks i 0 ≡ 4 → Inside used (getD ws i 0)) → constantAt (take used pool) (take n ks) (take n ws) i ≡ constantAt pool ks ws i
 counted n used pool ks ws i l h =
-    ap (λ k. entryOf (take used pool) k (getD (take n ws) i 0)) (take-entry n ks i l) ∙ ap (λ w. entryOf (take used pool) (getD ks i 0) w) (take-entry n ws i l) ∙ take-text used pool (getD ks i 0) (getD ws i 0) h
+    ap (λ k. entryOf (take used pool) k (getD (take n ws) i 0)) (getD-take n ks i 0 l) ∙ ap (λ w. entryOf (take used pool) (getD ks i 0) w) (getD-take n ws i 0 l) ∙ take-text used pool (getD ks i 0) (getD ws i 0) h

@@ -1,10 +1,11 @@
 -- DEMAND 3. For every chunk of bytes that is accepted with these buffers, every outside, all varargs and as many local values as names: running the lowered words ends, is never stuck, returns the values of reading the formulas,
 -- takes the reading's outward steps in their order, and carries out no more words than there are. It holds because the words represent labelled code, whose run is the reading.
-use Prim.Native.Nat.{ℕ, zero, suc, _≤_, _<_}
-use mathlib.Core.Path.{_≡_, refl, sym, ap, _∙_, subst}
-use mathlib.Core.List.{List, [], _∷_}
+use Prim.Native.Nat.{ℕ, _≤_, _<_}
+use mathlib.Core.Path.{_≡_, sym, ap, _∙_, subst}
+use mathlib.Core.List.{List}
 use native.Mathlib.Omega.{arith}
 use lib.ListN.{length, take}
+use lib.Seq.{length-take-le, getD-take}
 use Rattle.chunk.specs.Ast.{Chunk, spansOf, placesOf}
 use Rattle.chunk.specs.Form.{formed, formOf, exprAt, maxNesting}
 use Rattle.refusals.specs.declared.Refusal.{Refusal}
@@ -33,15 +34,9 @@ use Rattle.threads.specs.Holding.{Ends, gives, refuses}
 use Rattle.threads.specs.Coded.{coded}
 use Rattle.simulation.specs.Whole.{Lowers-to, count-is, whole-lowered}
 use Rattle.running.specs.Run.{ran}
-use Rattle.faithful.specs.Counted.{take-entry, counted}
+use Rattle.faithful.specs.Counted.{counted}
 use Rattle.faithful.specs.Accepted.{Accepted, header-names}
 use Rattle.faithful.specs.Cases.{lowered-cases}
-
--- the words that are run
-take-length : (n : ℕ) (l : List ℕ) → n ≤ length l → length (take n l) ≡ n
-take-length zero l h = refl
-take-length (suc n) [] h = absurd (omega arith)
-take-length (suc n) (x ∷ l) h = ap suc (take-length n l (omega arith))
 
 module _ (chunk : List ℕ) (c : Chunk) (w : World) (locals varargs : List Value) where
   -- what is shown of an outcome
@@ -59,8 +54,8 @@ module _ (chunk : List ℕ) (c : Chunk) (w : World) (locals varargs : List Value
     from-labelled : (s : State) (m : Buffers) → Lowers-to s m (σ .code) σ (a .head .locals) (a .head .formulas) → Runs-as-read chunk c w locals varargs (counts-of s) m
     from-labelled s m L =
         let E = whole w chunk (c .names) locals varargs each (c .formulas) in
-        let same-word : (q : ℕ) → q < s .pc → word (take (s .pc) (m .code)) q ≡ word (m .code) q = take-entry (s .pc) (m .code) in
-        let long : length (take (s .pc) (m .code)) ≡ s .pc = take-length (s .pc) (m .code) (L .fits) in
+        let same-word : (q : ℕ) → q < s .pc → word (take (s .pc) (m .code)) q ≡ word (m .code) q = λ q h. getD-take (s .pc) (m .code) q 0 h in
+        let long : length (take (s .pc) (m .code)) ≡ s .pc = length-take-le (s .pc) (m .code) (L .fits) in
         let formulas-are : count (c .formulas) ≡ a .head .formulas = count-is (exprAt chunk (a .head .varargs) maxNesting) (a .head .formulas) (c .formulas) (a .head .next) 1 (a .at) (a .line) (a .formulas) in
         let names-are : length (c .names) ≡ a .head .locals = ap length (a .names-are) ∙ header-names chunk (a .head) (a .is-head) in
         let r = ran w (program (counts-of s) m) (σ .tab) locals varargs (L .table .count) (subst (λ n. n ≤ maxConstants) (L .table .count) (L .table .few)) (λ i l. let n : i < s .table .count = omega (arith, L .table .count) in counted (s .table .count) (s .table .used) (m .pool) (m .kinds) (m .values) i n (L .table .good .texts i n) ∙ L .table .entries i l) (L .most)

@@ -1,6 +1,6 @@
 -- goiftrue, goiffalse and not: the truth of the value decides which list a run leaves by, and a value that goes on has the other truth.
 use Prim.Native.Nat.{ℕ, _≤_}
-use mathlib.Core.Bool.{Bool, true, false, not}
+use mathlib.Core.Bool.{Bool, true, false, not, Bool·not-not}
 use mathlib.Core.Path.{_≡_, refl, ap, sym, _∙_}
 use mathlib.Core.Option.{Option, some, none}
 use Rattle.constants.specs.Entry.{Constant, nil as knil, truth as ktruth, number as knumber, text as ktext}
@@ -40,10 +40,6 @@ agrees-assoc false true true = refl
 agrees-assoc false true false = refl
 agrees-assoc false false true = refl
 agrees-assoc false false false = refl
-
-not-not : (c : Bool) → not (not c) ≡ c
-not-not true = refl
-not-not false = refl
 
 -- after goiftrue (c false) or goiffalse (c true), with the jumps in list m
 pub data Went (c : Bool) (m : ℕ) (p : ℕ) (o : Out) (n : ℕ) (R : Regs) (a : Taken Value) : Type 0 where
@@ -137,8 +133,8 @@ module _ (Γ : Setting) where
   test-went c m r n s R R′ h a m0 q ag w = go (agrees (is-true (R′ r)) (not c)) refl
     where
       go : (k : Bool) → agrees (is-true (R′ r)) (not c) ≡ k → Went c m (Z (push (br (test r (not c)) (lbl m)) s)) (C Γ (push (br (test r (not c)) (lbl m)) s)) n R a
-      go true e = gone none R′ (truth (not (is-true (R′ r)))) h (push-at Γ (br (test r (not c)) (lbl m)) s R′ h m0 q ∙ rw e refl) ag (ap not (agrees-true (is-true (R′ r)) (not c) e) ∙ not-not c)
-          (ap truth (sym (ap not (agrees-true (is-true (R′ r)) (not c) e) ∙ not-not c))) w
+      go true e = gone none R′ (truth (not (is-true (R′ r)))) h (push-at Γ (br (test r (not c)) (lbl m)) s R′ h m0 q ∙ rw e refl) ag (ap not (agrees-true (is-true (R′ r)) (not c) e) ∙ Bool·not-not c)
+          (ap truth (sym (ap not (agrees-true (is-true (R′ r)) (not c) e) ∙ Bool·not-not c))) w
       go false e = through R′ (truth (not (is-true (R′ r)))) h (push-at Γ (br (test r (not c)) (lbl m)) s R′ h m0 q ∙ rw (e, size-push Γ (br (test r (not c)) (lbl m)) s) refl) ag
           (not-agrees (is-true (R′ r)) c ∙ e) w
 

@@ -8,6 +8,7 @@ use lib.ListN.{length, take, drop, set, getD, length-append, length-take, drop-o
 use lib.Seq.{drop-cons, getD-take}
 use lib.Dec.{ltb, leb}
 use borrow.Author.Tests.{lt-ltb, le-ltb, ltb-true, ltb-false, leb-true, leb-false}
+use native.Mathlib.Numerals.{add-one}
 use Rattle.buffers.specs.Pad.{zeros, pad}
 use Rattle.buffers.specs.Laws.{length-pad, pad-none, set-pad}
 use Rattle.listing.specs.declared.Pen.{Pen}
@@ -87,13 +88,10 @@ glyph-letter d l = rw (glyph, le-ltb d 10 l) refl
 
 -- ---- the turns of the loops
 
-next : (i : ℕ) → i + 1 ≡ suc i
-next i = omega arith
-
 -- a text from place i on
 pub text-turn : (s : List ℕ) (i : ℕ) (o : List ℕ) (p : Pen) {o₁ : List ℕ} {p₁ : Pen} → i < length s → put (getD s i 0) o p ≡ page p₁ o₁ → puts (drop (i + 1) s) o₁ p₁ ≡ puts (drop i s) o p
 unfolding puts
-text-turn s i o p {o₁} {p₁} l e = ap (λ j. puts (drop j s) o₁ p₁) (next i) ∙ sym (ap (λ t. puts t o p) (drop-cons s i 0 l) ∙ ap (λ (g : Page). puts (drop (suc i) s) (g .out) (g .pen)) e)
+text-turn s i o p {o₁} {p₁} l e = ap (λ j. puts (drop j s) o₁ p₁) (add-one i) ∙ sym (ap (λ t. puts t o p) (drop-cons s i 0 l) ∙ ap (λ (g : Page). puts (drop (suc i) s) (g .out) (g .pen)) e)
 
 -- what stands at place i of the first n
 module _ (n : ℕ) (s : List ℕ) (i : ℕ) (a : i < n) (b : i < length s) where
@@ -103,12 +101,12 @@ module _ (n : ℕ) (s : List ℕ) (i : ℕ) (a : i < n) (b : i < length s) where
 pub words-turn : (n : ℕ) (ws ls : List ℕ) (i : ℕ) (o : List ℕ) (p : Pen) {o₁ : List ℕ} {p₁ : Pen} {l w : ℕ} → i < n → i < length ws → i < length ls → getD ls i 0 ≡ l → getD ws i 0 ≡ w → puts (word-line i l w) o p ≡ page p₁ o₁ →
     puts (word-lines (i + 1) (drop (i + 1) (take n ws)) (drop (i + 1) (take n ls))) o₁ p₁ ≡ puts (word-lines i (drop i (take n ws)) (drop i (take n ls))) o p
 unfolding word-lines
-words-turn n ws ls i o p {o₁} {p₁} {l} a b c f g e = ap (λ j. puts (word-lines j (drop j (take n ws)) (drop j (take n ls))) o₁ p₁) (next i) ∙ sym (rw (front n ws i a b, front n ls i a c) (puts-then (word-line i (getD ls i 0) (getD ws i 0)) _ o p (ap (λ y. puts (word-line i y (getD ws i 0)) o p) f ∙ ap (λ y. puts (word-line i l y) o p) g ∙ e) refl))
+words-turn n ws ls i o p {o₁} {p₁} {l} a b c f g e = ap (λ j. puts (word-lines j (drop j (take n ws)) (drop j (take n ls))) o₁ p₁) (add-one i) ∙ sym (rw (front n ws i a b, front n ls i a c) (puts-then (word-line i (getD ls i 0) (getD ws i 0)) _ o p (ap (λ y. puts (word-line i y (getD ws i 0)) o p) f ∙ ap (λ y. puts (word-line i l y) o p) g ∙ e) refl))
 
 pub constants-turn : (n : ℕ) (ks vs : List ℕ) (i : ℕ) (o : List ℕ) (p : Pen) {o₁ : List ℕ} {p₁ : Pen} {k : ℕ} → i < n → i < length ks → i < length vs → getD ks i 0 ≡ k → puts (constant-line i k (getD vs i 0)) o p ≡ page p₁ o₁ →
     puts (constant-lines (i + 1) (drop (i + 1) (take n ks)) (drop (i + 1) (take n vs))) o₁ p₁ ≡ puts (constant-lines i (drop i (take n ks)) (drop i (take n vs))) o p
 unfolding constant-lines
-constants-turn n ks vs i o p {o₁} {p₁} a b c f e = ap (λ j. puts (constant-lines j (drop j (take n ks)) (drop j (take n vs))) o₁ p₁) (next i) ∙ sym (rw (front n ks i a b, front n vs i a c) (puts-then (constant-line i (getD ks i 0) (getD vs i 0)) _ o p (ap (λ k. puts (constant-line i k (getD vs i 0)) o p) f ∙ e) refl))
+constants-turn n ks vs i o p {o₁} {p₁} a b c f e = ap (λ j. puts (constant-lines j (drop j (take n ks)) (drop j (take n vs))) o₁ p₁) (add-one i) ∙ sym (rw (front n ks i a b, front n vs i a c) (puts-then (constant-line i (getD ks i 0) (getD vs i 0)) _ o p (ap (λ k. puts (constant-line i k (getD vs i 0)) o p) f ∙ e) refl))
 
 -- ---- the end of a list
 

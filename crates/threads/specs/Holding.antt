@@ -3,12 +3,13 @@
 use Prim.Native.Nat.{ℕ, zero, suc, _+_, _<_, _≤_}
 use mathlib.Core.Bool.{Bool, true, false, _||_}
 use mathlib.Core.Path.{_≡_, refl, _∙_, ap}
-use mathlib.Core.List.{List, [], _∷_}
+use mathlib.Core.List.{List}
 use native.Mathlib.Numerals.{add-one}
 use native.Mathlib.Omega.{arith}
 use lib.ListN.{length, set}
 use lib.Dec.{leb}
 use borrow.Author.Tests.{leb-false, le-leb}
+use lib.Seq.{set-set}
 use Rattle.refusals.specs.Number.{numberOf}
 use Rattle.refusals.specs.declared.Refusal.{Refusal}
 use Rattle.refusals.specs.declared.Refusal.the-variants.{Words}
@@ -149,11 +150,6 @@ pub emit-at-ends : (w line : ℕ) (s : State) (m : Buffers) (P : ℕ → State �
 emit-at-ends w line s m P p = rw (emit-at-is w line s m) (push-ends (with-jpc 0 s) (with-code (discharged (m .code) (s .pc) (s .jpc)) m) w line P p)
 
 -- another word instead of the last
-pub set-twice : (l : List ℕ) (i a b : ℕ) → set (set l i a) i b ≡ set l i b
-set-twice [] i a b = refl
-set-twice (x ∷ l) zero a b = refl
-set-twice (x ∷ l) (suc i) a b = ap (λ z. x ∷ z) (set-twice l i a b)
-
 pub emit-instead : (v w : ℕ) (s : State) (m : Buffers) → emit w s m ≡ andThen (emit v s m) (λ pc s₁ m₁. done pc s₁ (with-code (set (m₁ .code) pc w) m₁))
 unfolding andThen
 emit-instead v w s m = rw (emit-line w s m, emit-line v s m, emit-at-is w (s .line) s m, emit-at-is v (s .line) s m, push-is w (s .line) s₁ m₁, push-is v (s .line) s₁ m₁) (go (no-room s₁ m₁))
@@ -165,7 +161,7 @@ emit-instead v w s m = rw (emit-line w s m, emit-line v s m, emit-at-is w (s .li
     m₁ = with-code (discharged (m .code) (s .pc) (s .jpc)) m
 
     stored : done (s .pc) (with-pc (s .pc + 1) s₁) (store w (s .line) s₁ m₁) ≡ andThen (done (s .pc) (with-pc (s .pc + 1) s₁) (store v (s .line) s₁ m₁)) (λ pc s₁ m₁. done pc s₁ (with-code (set (m₁ .code) pc w) m₁))
-    stored = rw (set-twice (m₁ .code) (s .pc) v w) refl
+    stored = rw (set-set (m₁ .code) (s .pc) v w) refl
 
     go : (t : Bool) → pick t (refused Words m₁) (done (s .pc) (with-pc (s .pc + 1) s₁) (store w (s .line) s₁ m₁)) ≡ andThen (pick t (refused Words m₁) (done (s .pc) (with-pc (s .pc + 1) s₁) (store v (s .line) s₁ m₁))) (λ pc s₁ m₁. done pc s₁ (with-code (set (m₁ .code) pc w) m₁))
     go true = refl

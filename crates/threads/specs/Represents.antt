@@ -1,7 +1,7 @@
 -- The representation: words and list heads represent labelled code where the words encode it and each label's places are a chain from its head. The fuel of a walk never runs out,
 -- since a chain is no longer than the code; and on represented code `patch_list_aux`, `remove_values` and `concat_jumps` are the edits land, re and relabel of one label.
 use Prim.Native.Nat.{ℕ, _≤_, _<_}
-use mathlib.Core.Bool.{Bool, true, false, _||_}
+use mathlib.Core.Bool.{Bool, true, false, _||_, or-comm}
 use mathlib.Core.Path.{_≡_, refl, sym, _∙_}
 use mathlib.Core.List.{List, [], _∷_, _++_}
 use native.Mathlib.Omega.{arith}
@@ -209,10 +209,4 @@ module _ {K : Coding} {cap : ℕ} {ws : List ℕ} {H : ℕ → ℕ} {c : Code} (
 
   -- concat_jumps(b, a): list a goes behind list b
   pub rep-concat : (a b : ℕ) → (a ≡ b → ⊥) → Rep K cap (linked ws (H b) (H a)) (setH b (concat-jumps (H b) (H a)) (setH a 0 H)) (edit (one a (re b false)) c)
-  rep-concat a b n = rep-join b a a b (λ z. n (sym z)) n (λ i. lab-both a b i ∙ swap (isLab a i) (isLab b i)) (λ ℓ p q. q)
-    where
-      swap : (s t : Bool) → (s || t) ≡ (t || s)
-      swap true true = refl
-      swap true false = refl
-      swap false true = refl
-      swap false false = refl
+  rep-concat a b n = rep-join b a a b (λ z. n (sym z)) n (λ i. lab-both a b i ∙ or-comm (isLab a i) (isLab b i)) (λ ℓ p q. q)
