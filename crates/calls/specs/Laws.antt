@@ -133,7 +133,7 @@ open-call e h = ap (λ (b : Bool). b || isKind VarArg e) h
 
 -- what the table has under the operand
 abbrev pub indexed : ExprContext → ℕ → ExprContext
-indexed t k = record { kind = Indexed; info = t .info; aux = k; number = t .number; bits = t .bits; t = t .t; f = t .f }
+indexed t k = record { kind = Indexed; info = t .info; aux = k; nval = t .nval; bits = t .bits; t = t .t; f = t .f }
 
 module _ (t key : ExprContext) (s : State) (m : Buffers) where
   pub indexed-done : {k : ExprContext} {u : State} {o : Buffers} → exp2rk key s m ≡ done k u o → set-indexed t key s m ≡ done (indexed t (rk k)) u o

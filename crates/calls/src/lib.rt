@@ -179,7 +179,7 @@ pub fn set_indexed(
                 kind: ExprKind::Indexed,
                 info: t.info,
                 aux: rk(k),
-                number: t.number,
+                nval: t.nval,
                 bits: t.bits,
                 t: t.t,
                 f: t.f,
@@ -285,7 +285,7 @@ pub fn string_constant(
 ) -> Given
     ensures { λ r. ⌜ ((h : Header) (cs ls : List ℕ) → string-constant (now (chunk .entry)) h t st (bufs cs ls (now (kinds .entry)) (now (values .entry)) (now (pool .entry))) ≡ givenIs r (bufs cs ls (now (kinds .exit)) (now (values .exit)) (now (pool .exit)))) ⌝ }
 {
-    let v = Val::Text {
+    let v = Val::Str {
         start: t.start,
         len: t.len,
     };

@@ -31,7 +31,7 @@ use Rattle.chunk.specs.declared.header.Skipped.the-variants as skip
 
 -- whatever a node that is read satisfies by its extent; a refusal satisfies all
 abbrev OnExtent : (Extent → Type 0) → ExtentRead → Type 0
-OnExtent P (extent.Node n) = P n
+OnExtent P (extent.Extent n) = P n
 OnExtent P (extent.Refused k) = Unit {0}
 
 abbrev OnNode : (Extent → Type 0) → NodeRead → Type 0
@@ -98,7 +98,7 @@ module _ (s : List ℕ) where
   unfolding nodeAt
   node-all va at line = behind-front va (at + 2) (frontAt s at line) (front-in at line)
 
-  pub node-in : (va : Bool) (at line : ℕ) (n : Extent) → extentOf (nodeAt s va at line) ≡ extent.Node n → (at + 2 ≤ n .next) × (n .next ≤ length s)
+  pub node-in : (va : Bool) (at line : ℕ) (n : Extent) → extentOf (nodeAt s va at line) ≡ extent.Extent n → (at + 2 ≤ n .next) × (n .next ≤ length s)
   node-in va at line n e = rw e at (node-all va at line)
 
   abbrev HeaderIn : Header → Type 0

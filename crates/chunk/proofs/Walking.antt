@@ -151,7 +151,7 @@ module _ (f : ℕ → ℕ → Parsed Expr) (sp : Span) (n : ℕ) (s : List ℕ) 
 
 -- a node at a place, with nestings left
 module _ (b : List ℕ) (va : Bool) (at line n : ℕ) (s : List ℕ) where
-  pub expr-walked : (left : ℕ) (x : Extent) (R : WalkEnd) (S : List ℕ) → (left ≡ 0 → ⊥) → extentOf (nodeAt b va at line) ≡ extent.Node x
+  pub expr-walked : (left : ℕ) (x : Extent) (R : WalkEnd) (S : List ℕ) → (left ≡ 0 → ⊥) → extentOf (nodeAt b va at line) ≡ extent.Extent x
       → Walked spansOf (exprsAt (exprAt b va (left - 1)) (x .children) (x .next) (x .line)) (n + 1) (set s n at) R S
       → Walked spans (exprAt b va left at line) n s R S
   unfolding exprAt
@@ -164,7 +164,7 @@ module _ (b : List ℕ) (va : Bool) (at line n : ℕ) (s : List ℕ) where
       span : Node → Span
       span nd = record { line = nd .line; place = at; nesting = maxNesting - left }
 
-      go : (r : NodeRead) → extentOf r ≡ extent.Node x → Walked spans (withNode r (λ nd. rest (exprAt b va left) (span nd) (nd .head) (nd .next) (nd .line))) n s R S
+      go : (r : NodeRead) → extentOf r ≡ extent.Extent x → Walked spans (withNode r (λ nd. rest (exprAt b va left) (span nd) (nd .head) (nd .next) (nd .line))) n s R S
       go (read.Node nd) g =
           let is : record { children = childrenOf (nd .head); line = nd .line; next = nd .next } ≡ x = cc in
           rest-walked (exprAt b va left) (span nd) n s R S (nd .head) (nd .next) (nd .line) (rw (q, ← is) at w)

@@ -68,17 +68,18 @@ exprAt s va (suc left) at line =
     withNode (nodeAt s va at line) λ n.
     rest (exprAt s va left) (record { line = n .line; place = at; nesting = maxNesting - left }) (n .head) (n .next) (n .line)
 
+-- a chunk that has the form, or the first refusal
 pub data Formed : Type 0 where
   formed : Chunk → Formed
-  refused : Refusal → Formed
+  unformed : Refusal → Formed
 
 abbrev pub withHeader : HeaderRead → (Header → Formed) → Formed
 withHeader (header.Header h) f = f h
-withHeader (header.Refused k) f = refused k
+withHeader (header.Refused k) f = unformed k
 
 abbrev pub withExprs : Parsed Exprs → (Exprs → ℕ → Formed) → Formed
 withExprs (parsed es at line) f = f es at
-withExprs (refused k) f = refused k
+withExprs (refused k) f = unformed k
 
 abbrev pub namesOf : Names → List Text
 namesOf (names ts at) = ts
@@ -88,7 +89,7 @@ namesOf missing = []
 unfoldable pub ended : List ℕ → Header → Exprs → ℕ → Formed
 ended s h fs at =
     elim (eqb at (length s)) [
-      | false ↦ refused refusal.Trailing
+      | false ↦ unformed refusal.Trailing
       | true ↦ formed (record { names = namesOf (namesAt s (h .locals) (h .names)); varargs = h .varargs; formulas = fs })
     ]
 
@@ -96,6 +97,6 @@ ended s h fs at =
 unfoldable pub formOf : List ℕ → Formed
 formOf s =
     elim (leb (length s) maxLength) [
-      | false ↦ refused refusal.TooLong
+      | false ↦ unformed refusal.TooLong
       | true ↦ withHeader (headerAt s) λ h. withExprs (exprsAt (exprAt s (h .varargs) maxNesting) (h .formulas) (h .next) 1) (ended s h)
     ]

@@ -14,7 +14,7 @@ use Rattle.ast.specs.declared.Leaf.the-variants as leaf
 use Rattle.ast.specs.declared.Two.the-variants as two
 use Rattle.chunk.specs.Ast.{Span, leaf as leafOf, two as twoOf, none, more, spans, spansOf}
 use Rattle.chunk.specs.Headers.{namesAt, formulasAt, headerAt}
-use Rattle.chunk.specs.Form.{exprsAt, rest, exprAt, Formed, formed, refused as unformed, ended, formOf}
+use Rattle.chunk.specs.Form.{exprsAt, rest, exprAt, Formed, formed, unformed, ended, formOf}
 
 -- the refusal's number; or how many locals, whether there are varargs, and where the nodes stand in reading order
 pub data Answer : Type 0 where

@@ -6,7 +6,7 @@ use lib.ListN.{length}
 use lib.Seq.{sets}
 use Rattle.buffers.specs.Pad.{zeros, pad}
 use Rattle.chunk.specs.Ast.{Span, spansOf, placesOf}
-use Rattle.chunk.specs.Form.{Parsed, parsed, refused, Formed, formed, refused as unformed, maxLength}
+use Rattle.chunk.specs.Form.{Parsed, parsed, refused, Formed, formed, unformed, maxLength}
 use Rattle.chunk.specs.declared.form.Walk.{Walk}
 use Rattle.chunk.specs.declared.form.WalkEnd.{WalkEnd}
 use Rattle.chunk.specs.declared.form.WalkEnd.the-variants as end

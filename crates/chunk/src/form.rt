@@ -53,7 +53,7 @@ fn walk_expr(chunk: &[u8], scratch: &mut [u32], varargs: bool, left: usize, w: W
     let at = w.at;
     let nodes = w.nodes;
     match skip::skip_node(chunk, varargs, at, w.line) {
-        ExtentRead::Node(n) => {
+        ExtentRead::Extent(n) => {
             put_place(scratch, nodes, at as u32);
             let next = Walk {
                 at: n.next,

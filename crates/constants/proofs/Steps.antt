@@ -15,7 +15,7 @@ use borrow.Author.Tests.{eqb-true, eqb-false, eq-eqb, le-leb, leb-true, leb-fals
 use Rattle.laws.specs.Truth.{or-false}
 use Rattle.refusals.specs.declared.Refusal.the-variants.{Pool}
 use Rattle.constants.specs.declared.Val.{Val}
-use Rattle.constants.specs.declared.Val.the-variants.{Truth}
+use Rattle.constants.specs.declared.Val.the-variants as val
 use Rattle.constants.specs.declared.Table.{Table}
 use Rattle.constants.specs.declared.Found.{Found}
 use Rattle.constants.specs.declared.Found.the-variants.{At, Nothing}
@@ -201,7 +201,7 @@ sets-end to from at i h = rw (drop-of-length-le from h)
 
 -- ---- a constant added: each law's hypotheses are in the code's order
 
-pub append-truth : (chunk : List ℕ) (t : Table) (b : Bool) (ks ws pool : List ℕ) → append chunk t (Truth b) ks ws pool ≡ stored t (kind-of (truth b)) 0 0 ks ws pool
+pub append-truth : (chunk : List ℕ) (t : Table) (b : Bool) (ks ws pool : List ℕ) → append chunk t (val.Bool b) ks ws pool ≡ stored t (kind-of (truth b)) 0 0 ks ws pool
 unfolding append
 append-truth chunk t true ks ws pool = refl
 append-truth chunk t false ks ws pool = refl

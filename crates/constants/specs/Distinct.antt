@@ -14,7 +14,7 @@ use borrow.Author.Tests.{leb-true}
 use borrow.Author.Count.{below-more}
 use Rattle.refusals.specs.declared.Refusal.{Refusal}
 use Rattle.constants.specs.declared.Val.{Val}
-use Rattle.constants.specs.declared.Val.the-variants.{Nil, Truth, Number, Text}
+use Rattle.constants.specs.declared.Val.the-variants as val
 use Rattle.constants.specs.declared.Table.{Table}
 use Rattle.constants.specs.declared.Found.{Found}
 use Rattle.constants.specs.declared.Found.the-variants.{Nothing}
@@ -39,10 +39,10 @@ pub record Good (t : Table) (ks ws pool : List ℕ) : Type 0 where
 
 -- a text is shorter than 65,536 bytes
 abbrev pub Short : List ℕ → Val → Type 0
-Short chunk Nil = Unit {0}
-Short chunk (Truth b) = Unit {0}
-Short chunk (Number x b) = Unit {0}
-Short chunk (Text s n) = length (part chunk s n) < 65536
+Short chunk val.Nil = Unit {0}
+Short chunk (val.Bool b) = Unit {0}
+Short chunk (val.Num x b) = Unit {0}
+Short chunk (val.Str s n) = length (part chunk s n) < 65536
 
 -- the constant v is entry i of a table that has the entries of t, and at most one more
 pub record Grew (chunk : List ℕ) (t : Table) (v : Val) (ks ws pool : List ℕ) (i : ℕ) (t′ : Table) (ks′ ws′ pool′ : List ℕ) : Type 0 where
@@ -231,12 +231,12 @@ module _ (start len : ℕ) (h : start < 2 ^ 48) (l : len < 65536) where
   place-length : (start % 281474976710656 * 65536 + len % 65536) % 65536 ≡ len
   place-length = rw digits (omega arith)
 
-right-text : (chunk : List ℕ) (t : Table) (s n : ℕ) (ks ws pool : List ℕ) → find (holds pool chunk (Text s n)) (t .count) ks ws ≡ Nothing → full (t .count) ks ws ≡ false
-    → (b : Bool) → leb (t .used + length (part chunk s n)) (length pool) ≡ b → RightOut chunk t (Text s n) ks ws pool (storedText b t (part chunk s n) ks ws pool)
+right-text : (chunk : List ℕ) (t : Table) (s n : ℕ) (ks ws pool : List ℕ) → find (holds pool chunk (val.Str s n)) (t .count) ks ws ≡ Nothing → full (t .count) ks ws ≡ false
+    → (b : Bool) → leb (t .used + length (part chunk s n)) (length pool) ≡ b → RightOut chunk t (val.Str s n) ks ws pool (storedText b t (part chunk s n) ks ws pool)
 unfolding entryOf
 right-text chunk t s n ks ws pool nowhere free false e = (refl, refl, refl)
 right-text chunk t s n ks ws pool nowhere free true e =
-    right-new chunk t (Text s n) ks ws pool 4 (t .used % 281474976710656 * 65536 + length (part chunk s n) % 65536) (part chunk s n) nowhere free
+    right-new chunk t (val.Str s n) ks ws pool 4 (t .used % 281474976710656 * 65536 + length (part chunk s n) % 65536) (part chunk s n) nowhere free
     (λ g small short.
     let h = leb-true (t .used + length (part chunk s n)) (length pool) e in
     let start = place-start (t .used) (length (part chunk s n)) small short in
@@ -251,11 +251,11 @@ right-bare chunk t v ks ws pool k w nowhere free bare e =
 right-append : (chunk : List ℕ) (t : Table) (v : Val) (ks ws pool : List ℕ) → find (holds pool chunk v) (t .count) ks ws ≡ Nothing → full (t .count) ks ws ≡ false
     → RightOut chunk t v ks ws pool (append chunk t v ks ws pool)
 unfolding append entryOf
-right-append chunk t Nil ks ws pool nowhere free = right-bare chunk t Nil ks ws pool 0 0 nowhere free (λ e. omega arith) refl
-right-append chunk t (Truth false) ks ws pool nowhere free = right-bare chunk t (Truth false) ks ws pool 1 0 nowhere free (λ e. omega arith) refl
-right-append chunk t (Truth true) ks ws pool nowhere free = right-bare chunk t (Truth true) ks ws pool 2 0 nowhere free (λ e. omega arith) refl
-right-append chunk t (Number x b) ks ws pool nowhere free = right-bare chunk t (Number x b) ks ws pool 3 b nowhere free (λ e. omega arith) refl
-right-append chunk t (Text s n) ks ws pool nowhere free = right-text chunk t s n ks ws pool nowhere free (leb (t .used + length (part chunk s n)) (length pool)) refl
+right-append chunk t val.Nil ks ws pool nowhere free = right-bare chunk t val.Nil ks ws pool 0 0 nowhere free (λ e. omega arith) refl
+right-append chunk t (val.Bool false) ks ws pool nowhere free = right-bare chunk t (val.Bool false) ks ws pool 1 0 nowhere free (λ e. omega arith) refl
+right-append chunk t (val.Bool true) ks ws pool nowhere free = right-bare chunk t (val.Bool true) ks ws pool 2 0 nowhere free (λ e. omega arith) refl
+right-append chunk t (val.Num x b) ks ws pool nowhere free = right-bare chunk t (val.Num x b) ks ws pool 3 b nowhere free (λ e. omega arith) refl
+right-append chunk t (val.Str s n) ks ws pool nowhere free = right-text chunk t s n ks ws pool nowhere free (leb (t .used + length (part chunk s n)) (length pool)) refl
 
 module _ (chunk : List ℕ) (t : Table) (v : Val) (ks ws pool : List ℕ) where
   right-added : RightOut chunk t v ks ws pool (added chunk t v ks ws pool)

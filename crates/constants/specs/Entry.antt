@@ -6,7 +6,7 @@ use mathlib.Core.Bool.{Bool, true, false}
 use lib.ListN.{getD, take, drop}
 use lib.Dec.{eqb}
 use Rattle.constants.specs.declared.Val.{Val}
-use Rattle.constants.specs.declared.Val.the-variants.{Nil, Truth, Number, Text}
+use Rattle.constants.specs.declared.Val.the-variants as val
 
 -- the len bytes from start, as far as there are any
 abbrev pub part : List ℕ → ℕ → ℕ → List ℕ
@@ -21,10 +21,10 @@ pub data Constant : Type 0 where
 
 -- what `Val` stands for, its text lying in the chunk
 abbrev pub constantOf : List ℕ → Val → Constant
-constantOf chunk Nil = nil
-constantOf chunk (Truth b) = truth b
-constantOf chunk (Number x b) = number b
-constantOf chunk (Text s n) = text (part chunk s n)
+constantOf chunk val.Nil = nil
+constantOf chunk (val.Bool b) = truth b
+constantOf chunk (val.Num x b) = number b
+constantOf chunk (val.Str s n) = text (part chunk s n)
 
 -- what an entry's kind and value stand for, its text lying in the pool: 0 nil, 1 false, 2 true, 3 number, 4 text (start × 65,536 + length); no other kind is a constant's
 unfoldable pub entryOf : List ℕ → ℕ → ℕ → Option Constant

@@ -222,10 +222,10 @@ late-text false b bytes ks ws pool = omega arith
 late-append : (chunk : List ℕ) (b : Table) (v : Val) (ks ws pool : List ℕ) → Late (append chunk b v ks ws pool .answer)
 unfolding append
 late-append chunk b val.Nil ks ws pool = tt
-late-append chunk b (val.Truth false) ks ws pool = tt
-late-append chunk b (val.Truth true) ks ws pool = tt
-late-append chunk b (val.Number x n) ks ws pool = tt
-late-append chunk b (val.Text s n) ks ws pool = late-text (leb (b .used + length (part chunk s n)) (length pool)) b (part chunk s n) ks ws pool
+late-append chunk b (val.Bool false) ks ws pool = tt
+late-append chunk b (val.Bool true) ks ws pool = tt
+late-append chunk b (val.Num x n) ks ws pool = tt
+late-append chunk b (val.Str s n) ks ws pool = late-text (leb (b .used + length (part chunk s n)) (length pool)) b (part chunk s n) ks ws pool
 
 -- adding refuses with numbers above 9: 11 and 12, as `added` shows
 pub late-added : (chunk : List ℕ) (b : Table) (v : Val) (ks ws pool : List ℕ) (r : Refusal) → added chunk b v ks ws pool .answer ≡ Added-variants.Refused r → 10 ≤ numberOf r

@@ -7,7 +7,7 @@ use mathlib.Core.Option.{some}
 use lib.Ieee.{binary64, ofBits, eq}
 use Rattle.refusals.specs.declared.Refusal.the-variants.{Constants, Pool}
 use Rattle.constants.specs.declared.Val.{Val}
-use Rattle.constants.specs.declared.Val.the-variants.{Nil, Truth, Number, Text}
+use Rattle.constants.specs.declared.Val.the-variants as val
 use Rattle.constants.specs.declared.Table.{Table}
 use Rattle.constants.specs.declared.Found.the-variants.{Nothing}
 use Rattle.constants.specs.declared.Added.{Added}
@@ -31,13 +31,13 @@ answers chunk t (v ∷ vs) ks ws pool =
 
 -- a number by its bits
 abbrev bits : ℕ → Val
-bits b = Number (ofBits binary64 b) b
+bits b = val.Num (ofBits binary64 b) b
 
 abbrev zeros : List ℕ
 zeros = 0 ∷ 0 ∷ 0 ∷ []
 
 -- the name x and then the string "x", each with its own byte in the chunk: one entry, and the table is unchanged
-pub name-and-string : answers (120 ∷ 1 ∷ 120 ∷ []) (table 0 0) (Text 0 1 ∷ Text 2 1 ∷ []) zeros zeros zeros ≡ At 0 (table 1 1) ∷ At 0 (table 1 1) ∷ []
+pub name-and-string : answers (120 ∷ 1 ∷ 120 ∷ []) (table 0 0) (val.Str 0 1 ∷ val.Str 2 1 ∷ []) zeros zeros zeros ≡ At 0 (table 1 1) ∷ At 0 (table 1 1) ∷ []
 unfolding answers added find holds entryOf same sameBytes append
 name-and-string = refl
 
@@ -65,25 +65,25 @@ pub zeros-are-nil : entryOf zeros 0 0 ≡ some nil
 unfolding entryOf
 zeros-are-nil = refl
 
-pub nil-not-found : find (holds zeros [] Nil) 0 zeros zeros ≡ Nothing
+pub nil-not-found : find (holds zeros [] val.Nil) 0 zeros zeros ≡ Nothing
 unfolding find
 nil-not-found = refl
 
-pub nil-twice : answers [] (table 0 0) (Truth true ∷ Nil ∷ Nil ∷ []) zeros zeros zeros ≡ At 0 (table 1 0) ∷ At 1 (table 2 0) ∷ At 1 (table 2 0) ∷ []
+pub nil-twice : answers [] (table 0 0) (val.Bool true ∷ val.Nil ∷ val.Nil ∷ []) zeros zeros zeros ≡ At 0 (table 1 0) ∷ At 1 (table 2 0) ∷ At 1 (table 2 0) ∷ []
 unfolding answers added find holds entryOf same append
 nil-twice = refl
 
 -- kinds and the pool both full: 11
-pub eleven-before-twelve : added (97 ∷ []) (table 1 3) (Text 0 1) (0 ∷ []) zeros zeros ≡ out (Refused Constants) (0 ∷ []) zeros zeros
+pub eleven-before-twelve : added (97 ∷ []) (table 1 3) (val.Str 0 1) (0 ∷ []) zeros zeros ≡ out (Refused Constants) (0 ∷ []) zeros zeros
 unfolding added find holds entryOf same
 eleven-before-twelve = refl
 
 -- a text longer than the pool: 12
-pub too-long : added (97 ∷ 98 ∷ 99 ∷ 100 ∷ []) (table 0 0) (Text 0 4) zeros zeros zeros ≡ out (Refused Pool) zeros zeros zeros
+pub too-long : added (97 ∷ 98 ∷ 99 ∷ 100 ∷ []) (table 0 0) (val.Str 0 4) zeros zeros zeros ≡ out (Refused Pool) zeros zeros zeros
 unfolding added find append
 too-long = refl
 
 -- the empty text takes no byte of a full pool
-pub empty-text : added [] (table 0 3) (Text 0 0) zeros zeros zeros ≡ out (At 0 (table 1 3)) (4 ∷ 0 ∷ 0 ∷ []) (196608 ∷ 0 ∷ 0 ∷ []) zeros
+pub empty-text : added [] (table 0 3) (val.Str 0 0) zeros zeros zeros ≡ out (At 0 (table 1 3)) (4 ∷ 0 ∷ 0 ∷ []) (196608 ∷ 0 ∷ 0 ∷ []) zeros
 unfolding added find append
 empty-text = refl

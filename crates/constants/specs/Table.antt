@@ -9,7 +9,7 @@ use Rattle.instructions.specs.Limits.{maxConstants}
 use Rattle.refusals.specs.declared.Refusal.the-variants.{Constants, Pool}
 use Rattle.constants.specs.Entry.{part, holds}
 use Rattle.constants.specs.declared.Val.{Val}
-use Rattle.constants.specs.declared.Val.the-variants.{Nil, Truth, Number, Text}
+use Rattle.constants.specs.declared.Val.the-variants as val
 use Rattle.constants.specs.declared.Table.{Table}
 use Rattle.constants.specs.declared.Found.{Found}
 use Rattle.constants.specs.declared.Found.the-variants.{At, Nothing}
@@ -53,11 +53,11 @@ storedText false t bytes ks ws pool = out (Added-variants.Refused Pool) ks ws po
 
 -- the new entry of a constant
 unfoldable pub append : List ℕ → Table → Val → List ℕ → List ℕ → List ℕ → Out
-append chunk t Nil ks ws pool = stored t 0 0 0 ks ws pool
-append chunk t (Truth false) ks ws pool = stored t 1 0 0 ks ws pool
-append chunk t (Truth true) ks ws pool = stored t 2 0 0 ks ws pool
-append chunk t (Number x b) ks ws pool = stored t 3 b 0 ks ws pool
-append chunk t (Text s n) ks ws pool = storedText (leb (t .used + length (part chunk s n)) (length pool)) t (part chunk s n) ks ws pool
+append chunk t val.Nil ks ws pool = stored t 0 0 0 ks ws pool
+append chunk t (val.Bool false) ks ws pool = stored t 1 0 0 ks ws pool
+append chunk t (val.Bool true) ks ws pool = stored t 2 0 0 ks ws pool
+append chunk t (val.Num x b) ks ws pool = stored t 3 b 0 ks ws pool
+append chunk t (val.Str s n) ks ws pool = storedText (leb (t .used + length (part chunk s n)) (length pool)) t (part chunk s n) ks ws pool
 
 -- `add_constant`, `string_constant`, `nil_constant`: the entry that there is, or a new one
 unfoldable pub added : List ℕ → Table → Val → List ℕ → List ℕ → List ℕ → Out

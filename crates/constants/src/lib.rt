@@ -17,9 +17,9 @@ use refusals::Refusal;
 // A constant: nil, a truth value, a number (its double and its bits), or a text by its place in the chunk.
 pub enum Val {
     Nil,
-    Truth(bool),
-    Number { value: f64, bits: u64 },
-    Text { start: usize, len: usize },
+    Bool(bool),
+    Num { value: f64, bits: u64 },
+    Str { start: usize, len: usize },
 }
 
 // How many entries the table has, and how many bytes of the pool they use.
@@ -276,9 +276,9 @@ pub fn find(kinds: &[u8], values: &[u64], pool: &[u8], chunk: &[u8], count: usiz
     let n = least(count, least(kinds.len(), values.len()));
     match v {
         Val::Nil => find_kind(kinds, n, 0),
-        Val::Truth(b) => find_kind(kinds, n, truth_kind(b)),
-        Val::Number { value: _, bits } => find_bits(kinds, values, n, bits),
-        Val::Text { start, len } => find_text(kinds, values, pool, n, part(chunk, start, len)),
+        Val::Bool(b) => find_kind(kinds, n, truth_kind(b)),
+        Val::Num { value: _, bits } => find_bits(kinds, values, n, bits),
+        Val::Str { start, len } => find_text(kinds, values, pool, n, part(chunk, start, len)),
     }
 }
 
@@ -394,9 +394,9 @@ fn append(
 {
     match v {
         Val::Nil => store(kinds, values, table, 0, 0, 0),
-        Val::Truth(b) => store(kinds, values, table, truth_kind(b), 0, 0),
-        Val::Number { value: _, bits } => store(kinds, values, table, 3, bits, 0),
-        Val::Text { start, len } => store_text(kinds, values, pool, table, part(chunk, start, len)),
+        Val::Bool(b) => store(kinds, values, table, truth_kind(b), 0, 0),
+        Val::Num { value: _, bits } => store(kinds, values, table, 3, bits, 0),
+        Val::Str { start, len } => store_text(kinds, values, pool, table, part(chunk, start, len)),
     }
 }
 

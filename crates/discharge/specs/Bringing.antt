@@ -1,8 +1,9 @@
 -- `bring` step by step: what is wanted of a descriptor is what is wanted of the value that it becomes; that is a constant, or the value where it goes. Assumes nothing.
 use Prim.Native.Nat.{ℕ, _≤_, _<_}
-use mathlib.Core.Bool.{Bool, true, false, not, true≢false, false≢true}
+use mathlib.Core.Bool.{Bool, true, false, true≢false, false≢true}
 use mathlib.Core.Path.{_≡_, refl, sym, ap, subst, _∙_}
 use lib.Dec.{leb}
+use borrow.Author.Tests.{not-true, not-false}
 use Rattle.refusals.specs.declared.Refusal.{Refusal}
 use Rattle.opcodes.specs.declared.OpCode.the-variants as op
 use Rattle.model.specs.declared.ExprKind.{ExprKind}
@@ -15,7 +16,7 @@ use Rattle.model.specs.Emission.{emit-abc, emit-abx, alloc-reg, free-reg}
 use Rattle.model.specs.Discharge.{discharge-kind, discharge-vars, free-expr, load-kind, discharge2reg, settle, join-jump, exp2reg, exp2nextreg, exp2anyreg, exp2val, rk-kind, exp2rk}
 use Rattle.emission.specs.Laws.{branch}
 use Rattle.discharge.specs.declared.Want.{Want}
-use Rattle.discharge.specs.declared.Want.the-variants.{Value, Load, Reg, Next, Any, Val, Rk}
+use Rattle.discharge.specs.declared.Want.the-variants.{Vars, Load, Reg, Next, Any, Val, Rk}
 use Rattle.discharge.specs.declared.Operand.{Operand}
 use Rattle.discharge.specs.declared.Operand.the-variants as operand
 use Rattle.discharge.specs.declared.Spot.{Spot}
@@ -104,7 +105,7 @@ module _ (e : ExprContext) (s : State) (m : Buffers) {d : ExprContext} {t : Stat
   val-done false q = val-plain e s m q ∙ h ∙ sym (val-plain d t n (told e s m h .1 ∙ q) ∙ again)
 
   pub wanted-done : (w : Want) (reg : ℕ) → wanted w reg e s m ≡ wanted w reg d t n
-  wanted-done Value reg = h ∙ sym again
+  wanted-done Vars reg = h ∙ sym again
   wanted-done Load reg = to-reg e reg s m h ∙ sym (to-reg d reg t n again)
   wanted-done Reg reg =
       reg-is e reg s m
@@ -117,7 +118,7 @@ module _ (e : ExprContext) (s : State) (m : Buffers) {d : ExprContext} {t : Stat
 
   -- and where only a value is
   pub value-done : (w : Want) (reg : ℕ) → only-value w ≡ true → wanted w reg e s m ≡ done d t n
-  value-done Value reg q = h
+  value-done Vars reg q = h
   value-done Load reg q = absurd (false≢true q)
   value-done Reg reg q = absurd (false≢true q)
   value-done Next reg q = absurd (false≢true q)
@@ -131,7 +132,7 @@ module _ (e : ExprContext) (s : State) (m : Buffers) {k : Refusal} {n : Buffers}
   val-refused false q = val-plain e s m q ∙ h
 
   pub wanted-refused : (w : Want) (reg : ℕ) → wanted w reg e s m ≡ refused k n
-  wanted-refused Value reg = h
+  wanted-refused Vars reg = h
   wanted-refused Load reg = to-reg-refused e reg s m h
   wanted-refused Reg reg = reg-refused e reg s m (to-reg-refused e reg s m h)
   wanted-refused Next reg = next-refused e s m h
@@ -196,14 +197,6 @@ any-landed : (e : ExprContext) (s : State) (m : Buffers) → as-rk (exp2anyreg e
 unfolding exp2anyreg
 any-landed e s m = as-rk-then (discharge-vars e s m) _ (λ d a b. anywhere d a b (isKind kind.NonReloc d) refl)
 
-pub no-jumps : (b : Bool) → not b ≡ true → b ≡ false
-no-jumps true q = absurd (false≢true q)
-no-jumps false q = refl
-
-pub some-jumps : (b : Bool) → not b ≡ false → b ≡ true
-some-jumps true q = refl
-some-jumps false q = absurd (true≢false q)
-
 -- an answer that was found to be one of its kinds
 pub rest-told : (w : Want) (reg : ℕ) (e : ExprContext) (g : Operand) (m : Buffers) {x : Result ExprContext} {h : Operand} → x ≡ restIs w reg e g m → g ≡ h → x ≡ restIs w reg e h m
 rest-told w reg e g m q h = q ∙ ap (λ (o : Operand). restIs w reg e o m) h
@@ -220,23 +213,23 @@ rest-rk reg e (operand.Refused k) n = refl
 -- a constant will do
 pub operand-wanted : (w : Want) (reg : ℕ) (e : ExprContext) (s : State) (m : Buffers) (r : Operand) (n : Buffers) → is-value e ≡ true → wants-operand w e ≡ true →
     rk-kind (e .kind) e s m ≡ restIs Rk 0 e r n → wanted w reg e s m ≡ restIs w reg e r n
-operand-wanted Value reg e s m r n v q h = absurd (false≢true q)
+operand-wanted Vars reg e s m r n v q h = absurd (false≢true q)
 operand-wanted Load reg e s m r n v q h = absurd (false≢true q)
 operand-wanted Reg reg e s m r n v q h = absurd (false≢true q)
 operand-wanted Next reg e s m r n v q h = absurd (false≢true q)
 operand-wanted Any reg e s m r n v q h = absurd (false≢true q)
 operand-wanted Val reg e s m r n v q h = absurd (false≢true q)
-operand-wanted Rk reg e s m r n v q h = operand-done e s m (val-plain e s m (no-jumps _ q) ∙ value-stays e s m v) ∙ h ∙ rest-rk reg e r n
+operand-wanted Rk reg e s m r n v q h = operand-done e s m (val-plain e s m (not-true _ q) ∙ value-stays e s m v) ∙ h ∙ rest-rk reg e r n
 
 -- and where none will
 pub other-wanted : (w : Want) (reg : ℕ) (e : ExprContext) (s : State) (m : Buffers) → wants-operand w e ≡ false → wanted w reg e s m ≡ reg-of w reg e s m
-other-wanted Value reg e s m q = refl
+other-wanted Vars reg e s m q = refl
 other-wanted Load reg e s m q = refl
 other-wanted Reg reg e s m q = refl
 other-wanted Next reg e s m q = refl
 other-wanted Any reg e s m q = refl
 other-wanted Val reg e s m q = refl
-other-wanted Rk reg e s m q = rk-is e s m ∙ ap as-rk (val-jumps e s m (some-jumps _ q)) ∙ any-landed e s m
+other-wanted Rk reg e s m q = rk-is e s m ∙ ap as-rk (val-jumps e s m (not-false _ q)) ∙ any-landed e s m
 
 -- ---- where it goes
 
@@ -283,12 +276,12 @@ pub as-told : (w : Want) (reg : ℕ) (e : ExprContext) (s : State) (r : Spot) (m
 as-told w reg e s r m q h = ap (λ (x : Want). reg-of x reg e s m) q ∙ h ∙ ap (λ (x : Want). spotIs x e s r m) (sym q)
 
 pub plain-stays : (w : Want) (reg : ℕ) (e : ExprContext) (s : State) (m : Buffers) → is-value e ≡ true → is-plain w e ≡ true → reg-of w reg e s m ≡ done e s m
-plain-stays Value reg e s m v q = value-stays e s m v
+plain-stays Vars reg e s m v q = value-stays e s m v
 plain-stays Load reg e s m v q = absurd (false≢true q)
 plain-stays Reg reg e s m v q = absurd (false≢true q)
 plain-stays Next reg e s m v q = absurd (false≢true q)
 plain-stays Any reg e s m v q = absurd (false≢true q)
-plain-stays Val reg e s m v q = val-plain e s m (no-jumps _ q) ∙ value-stays e s m v
+plain-stays Val reg e s m v q = val-plain e s m (not-true _ q) ∙ value-stays e s m v
 plain-stays Rk reg e s m v q = absurd (false≢true q)
 
 -- ---- there
@@ -303,7 +296,7 @@ module _ (w : Want) (e : ExprContext) (reg : ℕ) (s : State) (m : Buffers) wher
   there-refused h = ap (λ (y : Result ExprContext). andThen y (landing-of w reg)) h
 
 pub left-open : (w : Want) (reg : ℕ) (e : ExprContext) (s : State) (m : Buffers) → keeps-open w ≡ true → landing-of w reg e s m ≡ done e s m
-left-open Value reg e s m q = absurd (false≢true q)
+left-open Vars reg e s m q = absurd (false≢true q)
 left-open Load reg e s m q = refl
 left-open Reg reg e s m q = absurd (false≢true q)
 left-open Next reg e s m q = absurd (false≢true q)
@@ -312,7 +305,7 @@ left-open Val reg e s m q = absurd (false≢true q)
 left-open Rk reg e s m q = absurd (false≢true q)
 
 pub all-land : (w : Want) (reg : ℕ) (e : ExprContext) (s : State) (m : Buffers) → keeps-open w ≡ false → landing-of w reg e s m ≡ placed e reg s m
-all-land Value reg e s m q = refl
+all-land Vars reg e s m q = refl
 all-land Load reg e s m q = absurd (true≢false q)
 all-land Reg reg e s m q = refl
 all-land Next reg e s m q = refl

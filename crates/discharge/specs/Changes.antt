@@ -15,7 +15,7 @@ stateOf at line pc count used active free frame jpc label =
     record { at = at; line = line; pc = pc; table = record { count = count; used = used }; active = active; free = free; frame = frame; jpc = jpc; label = label }
 
 abbrev pub contextOf : ExprKind → ℕ → ℕ → Float → ℕ → ℕ → ℕ → ExprContext
-contextOf kind info aux number bits t f = record { kind = kind; info = info; aux = aux; number = number; bits = bits; t = t; f = f }
+contextOf kind info aux nval bits t f = record { kind = kind; info = info; aux = aux; nval = nval; bits = bits; t = t; f = f }
 
 abbrev pub changes : Described → Brought
 changes (described.Done s e) = brought.Done (e .kind) (s .pc) (s .table .count) (s .table .used) (s .free) (s .frame) (s .jpc) (s .label) (e .info) (e .t) (e .f)
@@ -23,5 +23,5 @@ changes (described.Refused k) = brought.Refused k
 
 abbrev pub changed : Brought → State → ExprContext → Described
 changed (brought.Done kind pc count used free frame jpc label info t f) s e =
-    described.Done (stateOf (s .at) (s .line) pc count used (s .active) free frame jpc label) (contextOf kind info (e .aux) (e .number) (e .bits) t f)
+    described.Done (stateOf (s .at) (s .line) pc count used (s .active) free frame jpc label) (contextOf kind info (e .aux) (e .nval) (e .bits) t f)
 changed (brought.Refused k) s e = described.Refused k

@@ -399,11 +399,11 @@ module _ (e : ExprContext) (s : State) (m : Buffers) where
   unfolding rk-kind
   rk-nil = refl
 
-  pub rk-true : rk-kind True e s m ≡ small e (add-constant [] (val.Truth true)) s m
+  pub rk-true : rk-kind True e s m ≡ small e (add-constant [] (val.Bool true)) s m
   unfolding rk-kind
   rk-true = refl
 
-  pub rk-false : rk-kind False e s m ≡ small e (add-constant [] (val.Truth false)) s m
+  pub rk-false : rk-kind False e s m ≡ small e (add-constant [] (val.Bool false)) s m
   unfolding rk-kind
   rk-false = refl
 

@@ -39,7 +39,7 @@ abbrev same-place : State → State → State
 same-place s t = record { at = s .at; line = s .line; pc = t .pc; table = t .table; active = s .active; free = t .free; frame = t .frame; jpc = t .jpc; label = t .label }
 
 abbrev same-number : ExprContext → ExprContext → ExprContext
-same-number e d = record { kind = d .kind; info = d .info; aux = e .aux; number = e .number; bits = e .bits; t = d .t; f = d .f }
+same-number e d = record { kind = d .kind; info = d .info; aux = e .aux; nval = e .nval; bits = e .bits; t = d .t; f = d .f }
 
 -- a step's state is its first one's in what stays, and its answer is as told
 unfoldable Stays : {A : Type 0} → (A → Type 0) → State → Result A → Type 0
@@ -248,7 +248,7 @@ loads kind.Nil e reg s m = brings e s (emit-nil reg s m) _ (nils reg s m) (λ _ 
 loads kind.True e reg s m = brings e s (emit-abc op.LoadBool reg 1 0 s m) _ (emitted _ s m) (λ _ t n. becomes t n e _ _)
 loads kind.False e reg s m = brings e s (emit-abc op.LoadBool reg 0 0 s m) _ (emitted _ s m) (λ _ t n. becomes t n e _ _)
 loads kind.K e reg s m = brings e s (emit-abx op.LoadK reg (e .info) s m) _ (emitted _ s m) (λ _ t n. becomes t n e _ _)
-loads kind.KNum e reg s m = brings e s (add-constant [] (val.Number (e .number) (e .bits)) s m) _ (adds s m _ _) (λ i t n. brings e t (emit-abx op.LoadK reg i t n) _ (emitted _ t n) (λ _ u o. becomes u o e _ _))
+loads kind.KNum e reg s m = brings e s (add-constant [] (val.Num (e .nval) (e .bits)) s m) _ (adds s m _ _) (λ i t n. brings e t (emit-abx op.LoadK reg i t n) _ (emitted _ t n) (λ _ u o. becomes u o e _ _))
 loads kind.Local e reg s m = stays s m e
 loads kind.Global e reg s m = stays s m e
 loads kind.Indexed e reg s m = stays s m e
@@ -325,10 +325,10 @@ smalls e v s m = either-way (Of e) (leb (s .table .count) maxIndexRk) _ (exp2any
 operands : (k : ExprKind) (e : ExprContext) (s : State) (m : Buffers) → Brings e s (rk-kind k e s m)
 unfolding rk-kind
 operands kind.Nil e s m = smalls e val.Nil s m
-operands kind.True e s m = smalls e (val.Truth true) s m
-operands kind.False e s m = smalls e (val.Truth false) s m
+operands kind.True e s m = smalls e (val.Bool true) s m
+operands kind.False e s m = smalls e (val.Bool false) s m
 operands kind.K e s m = nears e (e .info) s m
-operands kind.KNum e s m = brings e s (add-constant [] (val.Number (e .number) (e .bits)) s m) _ (adds s m _ _) (λ k t n. nears e k t n)
+operands kind.KNum e s m = brings e s (add-constant [] (val.Num (e .nval) (e .bits)) s m) _ (adds s m _ _) (λ k t n. nears e k t n)
 operands kind.Local e s m = anys e s m
 operands kind.Global e s m = anys e s m
 operands kind.Indexed e s m = anys e s m
@@ -344,7 +344,7 @@ rks e s m = goes-on e s (exp2val e s m) _ (vals e s m) (λ d. operands (d .kind)
 
 -- whatever is wanted
 wanted-brings : (w : Want) (reg : ℕ) (e : ExprContext) (s : State) (m : Buffers) → Brings e s (wanted w reg e s m)
-wanted-brings want.Value reg e s m = discharges (e .kind) e s m
+wanted-brings want.Vars reg e s m = discharges (e .kind) e s m
 wanted-brings want.Load reg e s m = to-reg e reg s m
 wanted-brings want.Reg reg e s m = regs e reg s m
 wanted-brings want.Next reg e s m = nexts e s m

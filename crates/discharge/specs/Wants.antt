@@ -9,7 +9,7 @@ use Rattle.model.specs.Steps.{Buffers, Result, done, refused, Step, andThen, re
 use Rattle.model.specs.Descriptor.{with-kind, has-jumps}
 use Rattle.model.specs.Discharge.{discharge-vars, load-kind, discharge2reg, exp2reg, exp2nextreg, exp2anyreg, exp2val, exp2rk}
 use Rattle.discharge.specs.declared.Want.{Want}
-use Rattle.discharge.specs.declared.Want.the-variants.{Value, Load, Reg, Next, Any, Val, Rk}
+use Rattle.discharge.specs.declared.Want.the-variants.{Vars, Load, Reg, Next, Any, Val, Rk}
 use Rattle.discharge.specs.declared.Operand.{Operand}
 use Rattle.discharge.specs.declared.Operand.the-variants as operand
 use Rattle.discharge.specs.declared.Spot.{Spot}
@@ -18,7 +18,7 @@ use Rattle.discharge.specs.Kinds.{placed}
 
 -- the definition that each is; `Load` and `Reg` want it in the register that is named
 abbrev pub wanted : Want → ℕ → ExprContext → Step ExprContext
-wanted Value reg e = discharge-vars e
+wanted Vars reg e = discharge-vars e
 wanted Load reg e = discharge2reg e reg
 wanted Reg reg e = exp2reg e reg
 wanted Next reg e = exp2nextreg e
@@ -27,7 +27,7 @@ wanted Val reg e = exp2val e
 wanted Rk reg e = exp2rk e
 
 abbrev pub only-value : Want → Bool
-only-value Value = true
+only-value Vars = true
 only-value Load = false
 only-value Reg = false
 only-value Next = false
@@ -36,7 +36,7 @@ only-value Val = false
 only-value Rk = false
 
 abbrev pub keeps-open : Want → Bool
-keeps-open Value = false
+keeps-open Vars = false
 keeps-open Load = true
 keeps-open Reg = false
 keeps-open Next = false
@@ -65,7 +65,7 @@ is-value e = value-kind (e .kind)
 
 -- whether a constant will do
 abbrev pub wants-operand : Want → ExprContext → Bool
-wants-operand Value e = false
+wants-operand Vars e = false
 wants-operand Load e = false
 wants-operand Reg e = false
 wants-operand Next e = false
@@ -75,7 +75,7 @@ wants-operand Rk e = not (has-jumps e)
 
 -- whether a value is what is wanted
 abbrev pub is-plain : Want → ExprContext → Bool
-is-plain Value e = true
+is-plain Vars e = true
 is-plain Load e = false
 is-plain Reg e = false
 is-plain Next e = false
@@ -85,7 +85,7 @@ is-plain Rk e = false
 
 -- what is left for a value that doesn't become a constant
 abbrev pub reg-of : Want → ℕ → ExprContext → Step ExprContext
-reg-of Value reg e = discharge-vars e
+reg-of Vars reg e = discharge-vars e
 reg-of Load reg e = discharge2reg e reg
 reg-of Reg reg e = exp2reg e reg
 reg-of Next reg e = exp2nextreg e
@@ -95,7 +95,7 @@ reg-of Rk reg e = exp2anyreg e
 
 -- in the register: the jumps land, unless they are to stay open
 abbrev pub landing-of : Want → ℕ → ExprContext → Step ExprContext
-landing-of Value reg e = placed e reg
+landing-of Vars reg e = placed e reg
 landing-of Load reg e = return e
 landing-of Reg reg e = placed e reg
 landing-of Next reg e = placed e reg

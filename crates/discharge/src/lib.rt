@@ -59,7 +59,7 @@ pub fn with_kind(e: ExprContext, kind: ExprKind, info: usize) -> ExprContext
         kind,
         info,
         aux: e.aux,
-        number: e.number,
+        nval: e.nval,
         bits: e.bits,
         t: e.t,
         f: e.f,
@@ -75,7 +75,7 @@ pub fn with_jumps(e: ExprContext, t: usize, f: usize) -> ExprContext
         kind,
         info: e.info,
         aux: e.aux,
-        number: e.number,
+        nval: e.nval,
         bits: e.bits,
         t,
         f,
@@ -216,8 +216,8 @@ pub fn number_constant(
 ) -> Given
     ensures { λ r. ⌜ ((cs ls : List ℕ) → number-constant e st (bufs cs ls (now (kinds .entry)) (now (values .entry)) (now (pool .entry))) ≡ givenIs r (bufs cs ls (now (kinds .exit)) (now (values .exit)) (now (pool .exit)))) ⌝ }
 {
-    let v = Val::Number {
-        value: e.number,
+    let v = Val::Num {
+        value: e.nval,
         bits: e.bits,
     };
     own_constant(kinds, values, pool, st, v)
@@ -469,7 +469,7 @@ fn place(code: &mut [u32], lines: &mut [u32], st: State, e: ExprContext, reg: us
 // One function brings a value to what is wanted, so that its steps stand once and a call of it copies state and descriptor once. A register that is named goes beside it.
 pub enum Want {
     // no variable any more: `discharge_vars`
-    Value,
+    Vars,
     // in the named register, its jumps still open: `discharge2reg`
     Load,
     // in the named register: `exp2reg`
@@ -502,7 +502,7 @@ fn only_value(want: Want) -> bool
     ensures { λ r. ⌜ only-value want ≡ r ⌝ }
 {
     match want {
-        Want::Value => true,
+        Want::Vars => true,
         Want::Load => false,
         Want::Reg => false,
         Want::Next => false,
@@ -570,10 +570,10 @@ fn rk_kind(
         return small(kinds, values, pool, st, Val::Nil);
     }
     if is_kind(e, ExprKind::True) {
-        return small(kinds, values, pool, st, Val::Truth(true));
+        return small(kinds, values, pool, st, Val::Bool(true));
     }
     if is_kind(e, ExprKind::False) {
-        return small(kinds, values, pool, st, Val::Truth(false));
+        return small(kinds, values, pool, st, Val::Bool(false));
     }
     if is_kind(e, ExprKind::K) {
         return near(st, e.info);
@@ -589,7 +589,7 @@ fn wants_operand(want: Want, e: ExprContext) -> bool
     ensures { λ r. ⌜ wants-operand want e ≡ r ⌝ }
 {
     match want {
-        Want::Value => false,
+        Want::Vars => false,
         Want::Load => false,
         Want::Reg => false,
         Want::Next => false,
@@ -646,12 +646,12 @@ fn any_spot(st: State, e: ExprContext) -> Spot
     next_spot(st, e)
 }
 
-// Whether a value is left as it is: always for `Value`, for `Val` where it has no jumps.
+// Whether a value is left as it is: always for `Vars`, for `Val` where it has no jumps.
 fn plain(e: ExprContext, want: Want) -> bool
     ensures { λ r. ⌜ is-plain want e ≡ r ⌝ }
 {
     match want {
-        Want::Value => true,
+        Want::Vars => true,
         Want::Load => false,
         Want::Reg => false,
         Want::Next => false,
@@ -681,7 +681,7 @@ fn keeps_open(want: Want) -> bool
     ensures { λ r. ⌜ keeps-open want ≡ r ⌝ }
 {
     match want {
-        Want::Value => false,
+        Want::Vars => false,
         Want::Load => true,
         Want::Reg => false,
         Want::Next => false,
@@ -881,7 +881,7 @@ fn changed(answer: Brought, st: State, e: ExprContext) -> Described
                     kind,
                     info,
                     aux: e.aux,
-                    number: e.number,
+                    nval: e.nval,
                     bits: e.bits,
                     t,
                     f,
@@ -911,14 +911,14 @@ fn bring_fields(
     kind: ExprKind,
     info: usize,
     aux: usize,
-    number: f64,
+    nval: f64,
     bits: u64,
     t: usize,
     f: usize,
     want: Want,
     reg: usize,
 ) -> Brought
-    ensures { λ r. ⌜ ((s : State) (e : ExprContext) → stateOf at line pc count used active free frame jpc label ≡ s → contextOf kind info aux number bits t f ≡ e → (wanted want reg e s (bufs (now (code .entry)) (now (lines .entry)) (now (kinds .entry)) (now (values .entry)) (now (pool .entry))) ≡ describedIs (changedOf r s e) (bufs (now (code .exit)) (now (lines .exit)) (now (kinds .exit)) (now (values .exit)) (now (pool .exit)))) × (only-value want ≡ true → (ks vs p : List ℕ) → discharge-vars e s (bufs (now (code .entry)) (now (lines .entry)) ks vs p) ≡ describedIs (changedOf r s e) (bufs (now (code .exit)) (now (lines .exit)) ks vs p))) ⌝ }
+    ensures { λ r. ⌜ ((s : State) (e : ExprContext) → stateOf at line pc count used active free frame jpc label ≡ s → contextOf kind info aux nval bits t f ≡ e → (wanted want reg e s (bufs (now (code .entry)) (now (lines .entry)) (now (kinds .entry)) (now (values .entry)) (now (pool .entry))) ≡ describedIs (changedOf r s e) (bufs (now (code .exit)) (now (lines .exit)) (now (kinds .exit)) (now (values .exit)) (now (pool .exit)))) × (only-value want ≡ true → (ks vs p : List ℕ) → discharge-vars e s (bufs (now (code .entry)) (now (lines .entry)) ks vs p) ≡ describedIs (changedOf r s e) (bufs (now (code .exit)) (now (lines .exit)) ks vs p))) ⌝ }
 {
     let table = Table { count, used };
     let st = State {
@@ -936,7 +936,7 @@ fn bring_fields(
         kind,
         info,
         aux,
-        number,
+        nval,
         bits,
         t,
         f,
@@ -979,7 +979,7 @@ pub fn bring(
         kind,
         e.info,
         e.aux,
-        e.number,
+        e.nval,
         e.bits,
         e.t,
         e.f,
@@ -1019,11 +1019,11 @@ pub fn discharge_vars(code: &mut [u32], lines: &mut [u32], st: State, e: ExprCon
         kind,
         e.info,
         e.aux,
-        e.number,
+        e.nval,
         e.bits,
         e.t,
         e.f,
-        Want::Value,
+        Want::Vars,
         0,
     );
     changed(answer, st, e)

@@ -16,7 +16,7 @@ use Rattle.nodes.specs.Nodes.{withByte, withText, require}
 use Rattle.nodes.specs.Reads.{on-byte, on-require}
 use Rattle.chunk.specs.Ast.{Exprs, Chunk}
 use Rattle.chunk.specs.Headers.{maxLocals, Names, names, missing, before, namesAt, skipped, withSkipped, formulasAt, headerAt}
-use Rattle.chunk.specs.Form.{maxLength, maxNesting, Parsed, parsed, refused, exprsAt, exprAt, Formed, formed, refused as unformed, withHeader, withExprs, namesOf, ended, formOf}
+use Rattle.chunk.specs.Form.{maxLength, maxNesting, Parsed, parsed, refused, exprsAt, exprAt, Formed, formed, unformed, withHeader, withExprs, namesOf, ended, formOf}
 use Rattle.chunk.specs.declared.header.Header.{Header}
 use Rattle.chunk.specs.declared.header.Skipped.{Skipped}
 use Rattle.chunk.specs.declared.header.Skipped.the-variants as skip

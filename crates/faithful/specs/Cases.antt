@@ -9,7 +9,7 @@ use borrow.Author.Tests.{leb-true, leb-false}
 use Rattle.refusals.specs.declared.Refusal.{Refusal}
 use Rattle.refusals.specs.declared.Refusal.the-variants as refusal
 use Rattle.chunk.specs.Ast.{Chunk, spansOf, placesOf}
-use Rattle.chunk.specs.Form.{Formed, formed, refused as unformed, formOf}
+use Rattle.chunk.specs.Form.{Formed, formed, unformed, formOf}
 use Rattle.chunk.specs.Headers.{headerAt}
 use Rattle.chunk.specs.declared.header.HeaderRead.{HeaderRead}
 use Rattle.chunk.specs.declared.header.HeaderRead.the-variants as header

@@ -9,7 +9,7 @@ use Rattle.cursor.specs.Fields.{hasBytes, byteAt, lineAt, bitsAt, textAt}
 use Rattle.ast.specs.Kinds.{kindOf}
 use Rattle.nodes.specs.Nodes.{fieldsAt, nodeAt}
 use Rattle.ast.specs.Operators.{binOpOf, unOpOf}
-use Rattle.chunk.specs.Form.{exprsAt, rest, exprAt, ended, formOf, Formed, formed, refused}
+use Rattle.chunk.specs.Form.{exprsAt, rest, exprAt, ended, formOf, Formed, formed, unformed}
 use Rattle.chunk.specs.Headers.{namesAt, formulasAt, headerAt}
 use Rattle.model.specs.Expressions.{search-local}
 use Rattle.model.specs.Rows.{p5-chunk}
@@ -33,7 +33,7 @@ inOrder (i ∷ c) later = inOrder c (i ∷ later)
 
 abbrev of-form : List ℕ → Formed → Program
 of-form chunk (formed c) = record { code = inOrder (labelled chunk (c .names) (c .formulas) .code) []; constants = labelled chunk (c .names) (c .formulas) .tab }
-of-form chunk (refused k) = record { code = []; constants = [] }
+of-form chunk (unformed k) = record { code = []; constants = [] }
 
 programs : List (List ℕ) → List Program
 programs [] = []

@@ -9,7 +9,7 @@ use Rattle.refusals.specs.declared.Refusal.{Refusal}
 use Rattle.refusals.specs.declared.Refusal.the-variants as refusal
 use Rattle.buffers.specs.Pad.{zeros, pad}
 use Rattle.chunk.specs.Ast.{Chunk, spansOf, placesOf}
-use Rattle.chunk.specs.Form.{Formed, formed, refused as unformed, formOf}
+use Rattle.chunk.specs.Form.{Formed, formed, unformed, formOf}
 use Rattle.chunk.specs.Walks.{checked, out as answered}
 use Rattle.chunk.specs.declared.form.Form.{Form}
 use Rattle.chunk.specs.declared.form.Form.the-variants as form

@@ -11,7 +11,7 @@ use Rattle.buffers.specs.Pad.{zeros}
 use Rattle.instructions.specs.Limits.{maxStack}
 use Rattle.constants.specs.Entry.{Constant, constantAt, Inside}
 use Rattle.chunk.specs.Ast.{Chunk, spansOf, placesOf}
-use Rattle.chunk.specs.Form.{formed, refused as unformed, formOf}
+use Rattle.chunk.specs.Form.{formed, unformed, formOf}
 use Rattle.model.specs.declared.Counts.{Counts}
 use Rattle.model.specs.declared.Lowered.{Lowered}
 use Rattle.model.specs.declared.Lowered.the-variants as answer

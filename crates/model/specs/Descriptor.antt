@@ -10,19 +10,19 @@ use Rattle.model.specs.declared.ExprContext.{ExprContext}
 
 -- `ExprContext::new`
 abbrev pub newOf : ExprKind → ℕ → ExprContext
-newOf k i = record { kind = k; info = i; aux = 0; number = ofBits binary64 0; bits = 0; t = 0; f = 0 }
+newOf k i = record { kind = k; info = i; aux = 0; nval = ofBits binary64 0; bits = 0; t = 0; f = 0 }
 
 -- `ExprContext::number`
 abbrev pub descriptorOf : Numeral → ExprContext
-descriptorOf n = record { kind = KNum; info = 0; aux = 0; number = n .value; bits = n .bits; t = 0; f = 0 }
+descriptorOf n = record { kind = KNum; info = 0; aux = 0; nval = n .value; bits = n .bits; t = 0; f = 0 }
 
 -- the descriptor with another kind and info
 abbrev pub with-kind : ExprKind → ℕ → ExprContext → ExprContext
-with-kind k i e = record { kind = k; info = i; aux = e .aux; number = e .number; bits = e .bits; t = e .t; f = e .f }
+with-kind k i e = record { kind = k; info = i; aux = e .aux; nval = e .nval; bits = e .bits; t = e .t; f = e .f }
 
 -- the descriptor with other jump lists
 abbrev pub with-jumps : ℕ → ℕ → ExprContext → ExprContext
-with-jumps t f e = record { kind = e .kind; info = e .info; aux = e .aux; number = e .number; bits = e .bits; t = t; f = f }
+with-jumps t f e = record { kind = e .kind; info = e .info; aux = e .aux; nval = e .nval; bits = e .bits; t = t; f = f }
 
 -- `has_jumps`
 abbrev pub has-jumps : ExprContext → Bool

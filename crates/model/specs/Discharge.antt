@@ -20,7 +20,7 @@ use Rattle.model.specs.Emission.{emit-abc, emit-abx, emit-jump, emit-nil
 abbrev pub change-word : ℕ → (ℕ → ℕ) → Step (Unit {0})
 change-word pc f = change-words (λ code. set code pc (f (word code pc)))
 
--- `set_one_ret`, `discharge_vars`: a variable, an indexed value, a call or a vararg becomes a value
+-- `discharge_vars` with `set_one_ret`, kind by kind: a variable, an indexed value, a call or a vararg becomes a value
 unfoldable pub discharge-kind : ExprKind → ExprContext → Step ExprContext
 discharge-kind Nil e = return e
 discharge-kind True e = return e
@@ -47,6 +47,7 @@ discharge-kind VarArg e = do
   change-word (e .info) (λ w. setBOf w 2)
   return (with-kind Relocable (e .info) e)
 
+-- `discharge_vars`
 abbrev pub discharge-vars : ExprContext → Step ExprContext
 discharge-vars e = discharge-kind (e .kind) e
 
@@ -56,8 +57,9 @@ free-expr e = when (isKind NonReloc e) (free-reg (e .info))
 
 -- a number's constant
 abbrev pub number-constant : ExprContext → Step ℕ
-number-constant e = add-constant [] (val.Number (e .number) (e .bits))
+number-constant e = add-constant [] (val.Num (e .nval) (e .bits))
 
+-- a value goes from a register to another
 abbrev pub move : ℕ → ℕ → Step (Unit {0})
 move to from = do
   emit-abc op.Move to from 0
@@ -94,6 +96,7 @@ load-kind NonReloc e reg = do
 load-kind Call e reg = return e
 load-kind VarArg e reg = return e
 
+-- `discharge2reg`
 unfoldable pub discharge2reg : ExprContext → ℕ → Step ExprContext
 discharge2reg e reg = do
   e₁ ← discharge-vars e
@@ -125,6 +128,7 @@ load-both e reg = do
   final ← get-label
   land e reg final on-false on-true
 
+-- the jumps of `exp2reg`: loads of both truth values only where some jump brings no value
 unfoldable pub settle : ExprContext → ℕ → Step (Unit {0})
 settle e reg = do
   code ← code-now
@@ -193,10 +197,11 @@ small e constant = do
 unfoldable pub near : ExprContext → ℕ → Step ExprContext
 near e k = elim (leb k maxIndexRk) [ true ↦ return (with-kind K k e) | false ↦ exp2anyreg e ]
 
+-- `exp2rk`, of what `exp2val` leaves, kind by kind
 unfoldable pub rk-kind : ExprKind → ExprContext → Step ExprContext
 rk-kind Nil e = small e (add-constant [] val.Nil)
-rk-kind True e = small e (add-constant [] (val.Truth true))
-rk-kind False e = small e (add-constant [] (val.Truth false))
+rk-kind True e = small e (add-constant [] (val.Bool true))
+rk-kind False e = small e (add-constant [] (val.Bool false))
 rk-kind K e = near e (e .info)
 rk-kind KNum e = do
   k ← number-constant e

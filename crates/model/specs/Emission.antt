@@ -59,6 +59,7 @@ no-room s m = leb (length (m .code)) (s .pc) || (leb (length (m .lines)) (s .pc)
 abbrev pub store : ℕ → ℕ → State → Buffers → Buffers
 store w line s m = record { code = set (m .code) (s .pc) w; lines = set (m .lines) (s .pc) line; kinds = m .kinds; values = m .values; pool = m .pool }
 
+-- the end of `emit`: the word is stored where one is left
 unfoldable pub push : ℕ → ℕ → Step ℕ
 push w line s m = elim (no-room s m) [ true ↦ refused Words m | false ↦ done (s .pc) (with-pc (s .pc + 1) s) (store w line s m) ]
 
@@ -120,6 +121,7 @@ code-label reg b jump = do
 abbrev pub adjoins : ℕ → ℕ → Bool
 adjoins w from = isOp LoadNil w && (leb (aOf w) from && leb from (bOf w + 1))
 
+-- a `LoadNil` of its own, for one register
 unfoldable pub load-nil : ℕ → Step (Unit {0})
 load-nil r = do
   emit-abc LoadNil r r 0
@@ -180,10 +182,12 @@ free-reg r = do
 
 -- ---- constants
 
+-- the table's answer: the state with the table as it then is, or the refusal
 abbrev pub keep : Added → Step ℕ
 keep (added.At i t) s m = done i (with-table t s) m
 keep (added.Refused k) s m = refused k m
 
+-- the same in the buffers as they then are
 abbrev pub stored-in : State → Buffers → Out → Result ℕ
 stored-in s m o = keep (o .answer) s (record { code = m .code; lines = m .lines; kinds = o .kinds; values = o .values; pool = o .pool })
 

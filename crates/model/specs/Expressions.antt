@@ -79,6 +79,7 @@ closed-call func line = do
 abbrev pub is-open : ExprContext → Bool
 is-open e = isKind Call e || isKind VarArg e
 
+-- the end of `compile_funcargs`: a call or vararg as the last argument gives all its values, and B is then 0
 unfoldable pub last-argument : ExprContext → ℕ → ExprContext → Step ExprContext
 last-argument func line e =
     elim (is-open e) [
@@ -105,7 +106,7 @@ compile-funcargs f func line (suc (suc n)) = do
 unfoldable pub set-indexed : ExprContext → ExprContext → Step ExprContext
 set-indexed t key = do
   k ← exp2rk key
-  return (record { kind = Indexed; info = t .info; aux = rk k; number = t .number; bits = t .bits; t = t .t; f = t .f })
+  return (record { kind = Indexed; info = t .info; aux = rk k; nval = t .nval; bits = t .bits; t = t .t; f = t .f })
 
 -- `code_self`
 unfoldable pub code-self : ExprContext → ExprContext → Step ExprContext
@@ -124,18 +125,20 @@ code-self e key = do
 module _ (chunk : List ℕ) (h : Header) where
   -- `string_constant`
   abbrev pub string-constant : Text → Step ℕ
-  string-constant t = add-constant chunk (val.Text (t .start) (t .len))
+  string-constant t = add-constant chunk (val.Str (t .start) (t .len))
 
-  -- `resolve_var`: a local by its last name, else a global
+  -- the local that was found, else a global
   abbrev pub resolved : Text → Option ℕ → Step ExprContext
   resolved t (some r) = return (newOf Local r)
   resolved t none = do
     k ← string-constant t
     return (newOf Global k)
 
+  -- `resolve_var`: a local by its last name, else a global
   unfoldable pub resolve-var : Text → Step ExprContext
   resolve-var t = resolved t (search-local chunk (bytesOf chunk t) (namesOf (namesAt chunk (h .locals) (h .names))) 0)
 
+  -- `compile_expr` of a node that has no sub-expression
   unfoldable pub leaf-expr : Leaf → Step ExprContext
   leaf-expr leaf.Nil = return (newOf Nil 0)
   leaf-expr leaf.True = return (newOf True 0)
@@ -175,7 +178,7 @@ module _ (chunk : List ℕ) (h : Header) where
     k ← string-constant t
     code-self e₁ (newOf K k)
 
-  -- a node's sub-expressions, each lowered by f, and what comes of them
+  -- `compile_expr` of a node: its sub-expressions, each lowered by f, and what comes of them
   unfoldable pub compile-head : Step ExprContext → Head → Step ExprContext
   compile-head f (head.Leaf l) = leaf-expr l
   compile-head f (head.One o) = do
@@ -192,6 +195,7 @@ module _ (chunk : List ℕ) (h : Header) where
     s ← get
     compile-funcargs f func (s .line) n
 
+  -- a node that was read: its line is current from here on
   abbrev pub compile-node : Step ExprContext → NodeRead → Step ExprContext
   compile-node f (read.Refused k) = refuse k
   compile-node f (read.Node n) = do

@@ -10,7 +10,7 @@ use Rattle.buffers.specs.Pad.{zeros, pad}
 use Rattle.opcodes.specs.declared.OpCode.the-variants as op
 use Rattle.chunk.specs.Ast.{spansOf, placesOf}
 use Rattle.chunk.specs.Headers.{headerAt}
-use Rattle.chunk.specs.Form.{formed, refused as unformed, formOf, maxNesting}
+use Rattle.chunk.specs.Form.{formed, unformed, formOf, maxNesting}
 use Rattle.chunk.specs.declared.header.Header.{Header}
 use Rattle.chunk.specs.declared.header.HeaderRead.{HeaderRead}
 use Rattle.chunk.specs.declared.header.HeaderRead.the-variants as header

@@ -44,11 +44,11 @@ arithOp arith.Unm = op.Unm
 
 -- `const_fold`: of numerals without jumps
 abbrev pub const-fold : Arith → ExprContext → ExprContext → Fold
-const-fold o e₁ e₂ = elim (is-numeral e₁ && is-numeral e₂) [ true ↦ foldOf o (e₁ .number) (e₂ .number) | false ↦ Kept ]
+const-fold o e₁ e₂ = elim (is-numeral e₁ && is-numeral e₂) [ true ↦ foldOf o (e₁ .nval) (e₂ .nval) | false ↦ Kept ]
 
 -- the descriptor with another number
 abbrev pub with-number : Numeral → ExprContext → ExprContext
-with-number n e = record { kind = e .kind; info = e .info; aux = e .aux; number = n .value; bits = n .bits; t = e .t; f = e .f }
+with-number n e = record { kind = e .kind; info = e .info; aux = e .aux; nval = n .value; bits = n .bits; t = e .t; f = e .f }
 
 abbrev pub unless-folded : Fold → ExprContext → Step ExprContext → Step ExprContext
 unless-folded (Folded n) e x = return (with-number n e)
@@ -104,7 +104,7 @@ is-far Nothing count = ltb maxIndexRk count
 -- a numeral that is listed above 255, or unlisted with 256 entries or more (difference 2)
 unfoldable pub far-numeral : ExprContext → Step Bool
 far-numeral e s m =
-    done (is-numeral e && is-far (find (holds (m .pool) [] (val.Number (e .number) (e .bits))) (s .table .count) (m .kinds) (m .values)) (s .table .count)) s m
+    done (is-numeral e && is-far (find (holds (m .pool) [] (val.Num (e .nval) (e .bits))) (s .table .count) (m .kinds) (m .values)) (s .table .count)) s m
 
 -- `code_comp`'s operands as RK: the left one first, unless it is a far numeral (difference 2)
 unfoldable pub compare-operands : Bool → ExprContext → ExprContext → (ExprContext → ExprContext → Step ExprContext) → Step ExprContext

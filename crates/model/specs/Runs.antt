@@ -18,7 +18,7 @@ use Rattle.ast.specs.Kinds.{kindOf}
 use Rattle.nodes.specs.Nodes.{fieldsAt, nodeAt}
 use Rattle.ast.specs.Operators.{binOpOf, unOpOf}
 use Rattle.chunk.specs.Ast.{spans, spansOf}
-use Rattle.chunk.specs.Form.{exprsAt, rest, exprAt, ended, formOf, Formed, formed, refused as unformed}
+use Rattle.chunk.specs.Form.{exprsAt, rest, exprAt, ended, formOf, Formed, formed, unformed}
 use Rattle.chunk.specs.Headers.{namesAt, formulasAt, headerAt}
 use Rattle.model.specs.Conditions.{pop, invertjump, jumponcond, jump-if-false, jump-if-true, goiftrue, goiffalse, emit-not, negate, code-not}
 use Rattle.model.specs.Discharge.{discharge-kind, free-expr, load-kind, discharge2reg, discharge2anyreg, land, load-both, settle, join-jump, exp2reg, exp2nextreg, exp2anyreg, exp2val, small, near, rk-kind, exp2rk}

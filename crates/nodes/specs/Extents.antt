@@ -7,7 +7,7 @@ use Rattle.nodes.specs.declared.skip.ExtentRead.{ExtentRead}
 use Rattle.nodes.specs.declared.skip.ExtentRead.the-variants as extents
 
 abbrev pub extent : ℕ → ℕ → ℕ → ExtentRead
-extent children line next = extents.Node (record { children = children; line = line; next = next })
+extent children line next = extents.Extent (record { children = children; line = line; next = next })
 
 abbrev pub extentOf : NodeRead → ExtentRead
 extentOf (read.Node n) = extent (childrenOf (n .head)) (n .line) (n .next)

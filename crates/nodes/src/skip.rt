@@ -29,13 +29,13 @@ pub struct Extent {
 
 pub enum ExtentRead {
     Refused(Refusal),
-    Node(Extent),
+    Extent(Extent),
 }
 
 fn ends(children: usize, line: u32, next: usize) -> ExtentRead
     ensures { λ r. ⌜ extent children line next ≡ r ⌝ }
 {
-    ExtentRead::Node(Extent {
+    ExtentRead::Extent(Extent {
         children,
         line,
         next,

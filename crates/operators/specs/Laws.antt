@@ -42,19 +42,19 @@ use Rattle.operators.specs.Parts.{chosen, arith-of, arith-left, jump-of,
 -- ---- folding
 
 module _ (o : Arith) (e₁ e₂ : ExprContext) where
-  pub fold-both : {r : Fold} → is-numeral e₁ ≡ true → is-numeral e₂ ≡ true → foldOf o (e₁ .number) (e₂ .number) ≡ r → const-fold o e₁ e₂ ≡ r
+  pub fold-both : {r : Fold} → is-numeral e₁ ≡ true → is-numeral e₂ ≡ true → foldOf o (e₁ .nval) (e₂ .nval) ≡ r → const-fold o e₁ e₂ ≡ r
   fold-both h i q =
-      ap (λ (b : Bool). elim (b && is-numeral e₂) [ true ↦ foldOf o (e₁ .number) (e₂ .number) | false ↦ Kept ]) h
-      ∙ ap (λ (b : Bool). elim b [ true ↦ foldOf o (e₁ .number) (e₂ .number) | false ↦ Kept ]) i
+      ap (λ (b : Bool). elim (b && is-numeral e₂) [ true ↦ foldOf o (e₁ .nval) (e₂ .nval) | false ↦ Kept ]) h
+      ∙ ap (λ (b : Bool). elim b [ true ↦ foldOf o (e₁ .nval) (e₂ .nval) | false ↦ Kept ]) i
       ∙ q
 
   pub fold-right : is-numeral e₁ ≡ true → is-numeral e₂ ≡ false → const-fold o e₁ e₂ ≡ Kept
   fold-right h i =
-      ap (λ (b : Bool). elim (b && is-numeral e₂) [ true ↦ foldOf o (e₁ .number) (e₂ .number) | false ↦ Kept ]) h
-      ∙ ap (λ (b : Bool). elim b [ true ↦ foldOf o (e₁ .number) (e₂ .number) | false ↦ Kept ]) i
+      ap (λ (b : Bool). elim (b && is-numeral e₂) [ true ↦ foldOf o (e₁ .nval) (e₂ .nval) | false ↦ Kept ]) h
+      ∙ ap (λ (b : Bool). elim b [ true ↦ foldOf o (e₁ .nval) (e₂ .nval) | false ↦ Kept ]) i
 
   pub fold-left : is-numeral e₁ ≡ false → const-fold o e₁ e₂ ≡ Kept
-  fold-left h = ap (λ (b : Bool). elim (b && is-numeral e₂) [ true ↦ foldOf o (e₁ .number) (e₂ .number) | false ↦ Kept ]) h
+  fold-left h = ap (λ (b : Bool). elim (b && is-numeral e₂) [ true ↦ foldOf o (e₁ .nval) (e₂ .nval) | false ↦ Kept ]) h
 
 -- ---- arithmetic
 
@@ -128,7 +128,7 @@ module _ (e₁ e₂ : ExprContext) (s : State) (m : Buffers) where
 
 module _ (e : ExprContext) (s : State) (cs ls ks vs p : List ℕ) where
   abbrev listed : Found
-  listed = find (holds p [] (val.Number (e .number) (e .bits))) (s .table .count) ks vs
+  listed = find (holds p [] (val.Num (e .nval) (e .bits))) (s .table .count) ks vs
 
   pub far-is : {f : Found} {b : Bool} → is-numeral e ≡ true → listed ≡ f → is-far f (s .table .count) ≡ b → far-numeral e s (bufs cs ls ks vs p) ≡ done b s (bufs cs ls ks vs p)
   unfolding far-numeral

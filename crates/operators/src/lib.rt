@@ -69,7 +69,7 @@ fn const_fold(op: Arith, e1: ExprContext, e2: ExprContext) -> Fold
 {
     if is_numeral(e1) {
         if is_numeral(e2) {
-            return folding::const_fold(op, e1.number, e2.number);
+            return folding::const_fold(op, e1.nval, e2.nval);
         }
     }
     Fold::Kept
@@ -84,7 +84,7 @@ fn with_number(e: ExprContext, n: Numeral) -> ExprContext
         kind,
         info: e.info,
         aux: e.aux,
-        number: n.value,
+        nval: n.value,
         bits: n.bits,
         t: e.t,
         f: e.f,

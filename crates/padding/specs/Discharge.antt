@@ -43,7 +43,7 @@ module _ {z : Sizes} where
   keeps-free-expr e = keeps-when (isKind NonReloc e) (keeps-free-reg (e .info))
 
   keeps-number-constant : (e : ExprContext) → Keeps z (number-constant e)
-  keeps-number-constant e = keeps-add-constant [] (val.Number (e .number) (e .bits))
+  keeps-number-constant e = keeps-add-constant [] (val.Num (e .nval) (e .bits))
 
   keeps-move : (to from : ℕ) → Keeps z (move to from)
   keeps-move to from = keeps-then (keeps-emit _) (λ _. keeps-skip)

@@ -24,7 +24,7 @@ use Rattle.nodes.specs.declared.node.NodeRead.{NodeRead}
 use Rattle.nodes.specs.declared.node.NodeRead.the-variants as node
 use Rattle.chunk.specs.Ast.{Span, Expr, Exprs}
 use Rattle.chunk.specs.Headers.{maxLocals, namesAt, skipped, withSkipped, formulasAt, headerAt}
-use Rattle.chunk.specs.Form.{maxLength, maxNesting, Parsed, parsed, refused as unparsed, withParsed, exprsAt, rest, withNode, exprAt, Formed, formed, refused as unformed, withHeader, withExprs, ended, formOf}
+use Rattle.chunk.specs.Form.{maxLength, maxNesting, Parsed, parsed, refused as unparsed, withParsed, exprsAt, rest, withNode, exprAt, Formed, formed, unformed, withHeader, withExprs, ended, formOf}
 use Rattle.chunk.specs.declared.header.Header.{Header}
 use Rattle.chunk.specs.declared.header.HeaderRead.{HeaderRead}
 use Rattle.chunk.specs.declared.header.HeaderRead.the-variants as header

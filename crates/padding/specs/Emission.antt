@@ -52,10 +52,10 @@ grows-text false t bytes ks vs pool = tt
 grows-append : (chunk : List ℕ) (t : Table) (v : Val) (ks vs pool : List ℕ) → Grows t (append chunk t v ks vs pool .answer)
 unfolding append
 grows-append chunk t val.Nil ks vs pool = grew-new t 0
-grows-append chunk t (val.Truth false) ks vs pool = grew-new t 0
-grows-append chunk t (val.Truth true) ks vs pool = grew-new t 0
-grows-append chunk t (val.Number x b) ks vs pool = grew-new t 0
-grows-append chunk t (val.Text s n) ks vs pool = grows-text (leb (t .used + length (part chunk s n)) (length pool)) t (part chunk s n) ks vs pool
+grows-append chunk t (val.Bool false) ks vs pool = grew-new t 0
+grows-append chunk t (val.Bool true) ks vs pool = grew-new t 0
+grows-append chunk t (val.Num x b) ks vs pool = grew-new t 0
+grows-append chunk t (val.Str s n) ks vs pool = grows-text (leb (t .used + length (part chunk s n)) (length pool)) t (part chunk s n) ks vs pool
 
 grows-added : (chunk : List ℕ) (t : Table) (v : Val) (ks vs pool : List ℕ) → Grows t (addedTo chunk t v ks vs pool .answer)
 grows-added chunk t v ks vs pool = search (find (holds pool chunk v) (t .count) ks vs) refl

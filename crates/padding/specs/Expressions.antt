@@ -80,7 +80,7 @@ module _ {z : Sizes} where
 
   module _ (chunk : List ℕ) (h : Header) where
     keeps-string-constant : (t : Text) → Keeps z (string-constant chunk h t)
-    keeps-string-constant t = keeps-add-constant chunk (val.Text (t .start) (t .len))
+    keeps-string-constant t = keeps-add-constant chunk (val.Str (t .start) (t .len))
 
     keeps-resolved : (t : Text) (r : Option ℕ) → Keeps z (resolved chunk h t r)
     keeps-resolved t (some r) = keeps-return _

@@ -149,8 +149,8 @@ module _ (Γ : Env) (s : State) (m : Buffers) (e₁ e₂ : ExprContext) (f g : �
 
 -- ---- `code_arith`
 
-folded : (o : Arith) (e₁ e₂ : ExprContext) (t : Bool) → (is-numeral e₁ && is-numeral e₂) ≡ t → const-fold o e₁ e₂ ≡ elim t [ true ↦ foldOf o (e₁ .number) (e₂ .number) | false ↦ Kept ]
-folded o e₁ e₂ t z = ap (λ (b : Bool). elim b [ true ↦ foldOf o (e₁ .number) (e₂ .number) | false ↦ Kept ]) z
+folded : (o : Arith) (e₁ e₂ : ExprContext) (t : Bool) → (is-numeral e₁ && is-numeral e₂) ≡ t → const-fold o e₁ e₂ ≡ elim t [ true ↦ foldOf o (e₁ .nval) (e₂ .nval) | false ↦ Kept ]
+folded o e₁ e₂ t z = ap (λ (b : Bool). elim b [ true ↦ foldOf o (e₁ .nval) (e₂ .nval) | false ↦ Kept ]) z
 
 -- a numeral tested on both sides
 fold-is : (o : Arith) (e₁ e₂ : ExprContext) (n k : Option ℕ) → Num e₁ n → Num e₂ k → const-fold o e₁ e₂ ≡ folds o n k

@@ -175,7 +175,7 @@ then-ext (done a s m) f g h = h a s m
 then-ext (refused k m) f g h = refl
 
 -- `exp2rk` of a numeral
-numeral-rk : (e : ExprContext) (b : ℕ) (s : State) (m : Buffers) → Numeral e b → exp2rk e s m ≡ andThen (add-constant [] (val.Number (e .number) (e .bits)) s m) (near e)
+numeral-rk : (e : ExprContext) (b : ℕ) (s : State) (m : Buffers) → Numeral e b → exp2rk e s m ≡ andThen (add-constant [] (val.Num (e .nval) (e .bits)) s m) (near e)
 unfolding exp2rk exp2val rk-kind discharge-kind
 numeral-rk e b s m n = ap (λ x. andThen x (λ e₁. rk-kind (e₁ .kind) e₁)) (chosen (has-jumps e) (exp2anyreg e) (discharge-vars e) s m ∙ plain ∙ ap (λ z. discharge-kind z e s m) (n .kind)) ∙ then-done e s m (λ e₁. rk-kind (e₁ .kind) e₁) ∙ ap (λ z. rk-kind z e s m) (n .kind)
   where
@@ -214,7 +214,7 @@ module _ (Γ : Env) (s : State) (m : Buffers) (e₁ e₂ : ExprContext) (f g : �
   abbrev Ends-in : St → Rk → Rk → ExprContext → State → Buffers → Type 0
   Ends-in σ a b e′ s′ m′ = SimD Γ s′ m′ e′ (fresh (kd (kcmp swapped o cond a b)) f (flush σ))
 
-  comp-is : code-comp (comparison o) cond swapped e₁ e₂ s m ≡ compare-operands (is-numeral e₁ && is-far (find (holds (m .pool) [] (val.Number (e₁ .number) (e₁ .bits))) (s .table .count) (m .kinds) (m .values)) (s .table .count)) e₁ e₂ F s m
+  comp-is : code-comp (comparison o) cond swapped e₁ e₂ s m ≡ compare-operands (is-numeral e₁ && is-far (find (holds (m .pool) [] (val.Num (e₁ .nval) (e₁ .bits))) (s .table .count) (m .kinds) (m .values)) (s .table .count)) e₁ e₂ F s m
   unfolding code-comp far-numeral andThen
   comp-is = refl
 
@@ -228,8 +228,8 @@ module _ (Γ : Env) (s : State) (m : Buffers) (e₁ e₂ : ExprContext) (f g : �
       (operand-first Γ s m e₁ e₂ f g p h la F _ x d l k (λ b c s₄ m₄ w. compared Γ o cmps cond swapped f (h .some) s₄ m₄ b c (exp2rkL (dv p) .st) (x .rkv) (exp2rkL (dv p) .rkv) (rk-on (Γ .n) (h .some) (dv p) new) w))
 
   module _ (b : ℕ) (num : Numeral e₁ b) (z : g ≡ f) where
-    far-test : (is-numeral e₁ && is-far (find (holds (m .pool) [] (val.Number (e₁ .number) (e₁ .bits))) (s .table .count) (m .kinds) (m .values)) (s .table .count)) ≡ not (isNear (number b) (p .st .tab))
-    far-test = rw (numeral-true e₁ b num) (far-is (tabled-is Γ s m (d .heads) e₂ (p .st) (p .de .kind) (d .is)) [] (val.Number (e₁ .number) (e₁ .bits)) ∙ ap (λ i. not (isNear (number i) (p .st .tab))) (num .bits))
+    far-test : (is-numeral e₁ && is-far (find (holds (m .pool) [] (val.Num (e₁ .nval) (e₁ .bits))) (s .table .count) (m .kinds) (m .values)) (s .table .count)) ≡ not (isNear (number b) (p .st .tab))
+    far-test = rw (numeral-true e₁ b num) (far-is (tabled-is Γ s m (d .heads) e₂ (p .st) (p .de .kind) (d .is)) [] (val.Num (e₁ .nval) (e₁ .bits)) ∙ ap (λ i. not (isNear (number i) (p .st .tab))) (num .bits))
 
     -- a far one: the right operand first
     far-one : isNear (number b) (p .st .tab) ≡ false → Ends (code-comp (comparison o) cond swapped e₁ e₂ s m) (λ e′ s′ m′. Ends-in (lateOf (some b) x (exp2rkL (dv p) .st) .st) (lateOf (some b) x (exp2rkL (dv p) .st) .rkv) (exp2rkL (dv p) .rkv) e′ s′ m′)
@@ -242,8 +242,8 @@ module _ (Γ : Env) (s : State) (m : Buffers) (e₁ e₂ : ExprContext) (f g : �
   -- a near one: listed now, and named
   near-bits : Numeral e₁ (e₁ .bits) → g ≡ f → isNear (number (e₁ .bits)) (p .st .tab) ≡ true → Ends (code-comp (comparison o) cond swapped e₁ e₂ s m) (λ e′ s′ m′. Near (e₁ .bits) (dv (addD (number (e₁ .bits)) p)) e′ s′ m′)
   unfolding compare-operands isNear
-  near-bits num z t = rw (comp-is, far-test (e₁ .bits) num z, t, numeral-rk e₁ (e₁ .bits) s m num, ← (then-assoc (add-constant [] (val.Number (e₁ .number) (e₁ .bits)) s m) (near e₁) (λ b. exp2rk e₂ >>= (λ c. F b c))))
-      (ends-then (sim-add-d p (val.Number (e₁ .number) (e₁ .bits)) tt d) (λ i s₁ m₁ q. rw (near-stays e₁ i s₁ m₁ (rw (q .0) t), then-done (with-kind kind.K i e₁) s₁ m₁ (λ b. exp2rk e₂ >>= (λ c. F b c)))
+  near-bits num z t = rw (comp-is, far-test (e₁ .bits) num z, t, numeral-rk e₁ (e₁ .bits) s m num, ← (then-assoc (add-constant [] (val.Num (e₁ .nval) (e₁ .bits)) s m) (near e₁) (λ b. exp2rk e₂ >>= (λ c. F b c))))
+      (ends-then (sim-add-d p (val.Num (e₁ .nval) (e₁ .bits)) tt d) (λ i s₁ m₁ q. rw (near-stays e₁ i s₁ m₁ (rw (q .0) t), then-done (with-kind kind.K i e₁) s₁ m₁ (λ b. exp2rk e₂ >>= (λ c. F b c)))
       (operand-first Γ s₁ m₁ (with-kind kind.K i e₁) e₂ f g (addD c p) (sound-add c p h) la F _ X (q .1 .1)
       ((refl, (c, (refl, (listed-include c (p .st .tab), (rw (place-include c (p .st .tab)) (near-place c (p .st .tab) t), ap (λ j. j + bitRk) (q .0 ∙ sym (place-include c (p .st .tab)))))))), (num .trues, num .falses)) (constant z)
       (λ b c′ s₄ m₄ w. compared Γ o cmps cond swapped f (h .some) s₄ m₄ b c′ _ _ _ (rk-on (Γ .n) (h .some) (dv (addD c p)) (dv-new (Γ .n) (h .some) (addD c p) (sound-add c p h .new))) w))))

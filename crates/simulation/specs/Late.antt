@@ -130,7 +130,7 @@ sound-fresh k f g τ o on l w ok = record {
 pub record Numeral (e : ExprContext) (b : ℕ) : Type 0 where
   pub kind : e .kind ≡ kind.KNum
   pub bits : e .bits ≡ b
-  pub double : e .number ≡ ofBits binary64 b
+  pub double : e .nval ≡ ofBits binary64 b
   pub trues : e .t ≡ 0
   pub falses : e .f ≡ 0
 

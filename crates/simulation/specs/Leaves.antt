@@ -6,7 +6,7 @@ use mathlib.Core.List.{List, _∷_}
 use mathlib.Core.Option.{Option, some, none}
 use native.Mathlib.Omega.{arith}
 use lib.ListN.{length, set}
-use lib.Seq.{set-getD}
+use lib.Seq.{set-getD, set-set}
 use Rattle.instructions.specs.Word.{abcOf}
 use Rattle.opcodes.specs.declared.OpCode.the-variants as op
 use Rattle.folding.specs.Numeral.{numeralOf}
@@ -36,7 +36,7 @@ use Rattle.labelled.specs.Discharge.{K, kc, kd, kl, kg, kva, fresh}
 use Rattle.labelled.specs.Expressions.{textC, resolved as resolvedL, compLeaf}
 use Rattle.threads.specs.Words.{word-same}
 use Rattle.threads.specs.Represents.{setH}
-use Rattle.threads.specs.Holding.{Ends, gives, ends-then, ends-map, with-code, set-twice, emit-instead}
+use Rattle.threads.specs.Holding.{Ends, gives, ends-then, ends-map, with-code, emit-instead}
 use Rattle.simulation.specs.Sim.{Env, Sim, Sims, SimD, Sound}
 use Rattle.simulation.specs.Steps.{sim-emit}
 use Rattle.simulation.specs.Adding.{sim-add}
@@ -49,8 +49,8 @@ within c a b e = omega arith
 
 module _ {Γ : Env} {s : State} {m : Buffers} (chunk : List ℕ) (σ : St) (on : On (Γ .n) σ) (one : 1 ≤ Γ .n) (h : Sims Γ s m σ) where
   -- a text is listed, and its index given
-  pub text-listed : (t : Text) → ShortText chunk t → Ends (add-constant chunk (val.Text (t .start) (t .len)) s m) (λ i s′ m′. (i ≡ place (text (bytesOf chunk t)) (addK (text (bytesOf chunk t)) σ .tab)) × ((s′ .frame ≡ s .frame) × Sims Γ s′ m′ (addK (text (bytesOf chunk t)) σ)))
-  text-listed t short = ends-map (sim-add (h .sim) chunk (val.Text (t .start) (t .len)) short) (λ i s′ m′ q. (q .0 ∙ sym (place-include (text (bytesOf chunk t)) (σ .tab)), (q .1 .0, record { heads = h .heads; sim = q .1 .1 .1 })))
+  pub text-listed : (t : Text) → ShortText chunk t → Ends (add-constant chunk (val.Str (t .start) (t .len)) s m) (λ i s′ m′. (i ≡ place (text (bytesOf chunk t)) (addK (text (bytesOf chunk t)) σ .tab)) × ((s′ .frame ≡ s .frame) × Sims Γ s′ m′ (addK (text (bytesOf chunk t)) σ)))
+  text-listed t short = ends-map (sim-add (h .sim) chunk (val.Str (t .start) (t .len)) short) (λ i s′ m′ q. (q .0 ∙ sym (place-include (text (bytesOf chunk t)) (σ .tab)), (q .1 .0, record { heads = h .heads; sim = q .1 .1 .1 })))
 
   -- as a value or a key
   pub text-desc : {s′ : State} {m′ : Buffers} (t : Text) (i : ℕ) → i ≡ place (text (bytesOf chunk t)) (addK (text (bytesOf chunk t)) σ .tab) → Sims Γ s′ m′ (addK (text (bytesOf chunk t)) σ) → SimD Γ s′ m′ (newOf kind.K i) (textC (bytesOf chunk t) σ)
@@ -77,7 +77,7 @@ module _ {Γ : Env} {s : State} {m : Buffers} (chunk : List ℕ) (σ : St) (on :
           inside = within (edit (here (σ .code)) (σ .code)) (x .holds .rep .fits) (x .holds .rep .len) sizes
 
           same-words : set (set (m₀ .code) (size (σ .code)) (abcOf op.VarArg 0 1 0)) (size (σ .code)) (abcOf op.VarArg 0 2 0) ≡ m₀ .code
-          same-words = set-twice (m₀ .code) (size (σ .code)) _ _ ∙ subst (λ w. set (m₀ .code) (size (σ .code)) w ≡ m₀ .code) w-is (set-getD (m₀ .code) (size (σ .code)) 0)
+          same-words = set-set (m₀ .code) (size (σ .code)) _ _ ∙ subst (λ w. set (m₀ .code) (size (σ .code)) w ≡ m₀ .code) w-is (set-getD (m₀ .code) (size (σ .code)) 0)
 
           back : Sim Γ s₁ (with-code (set (set (m₀ .code) (size (σ .code)) (abcOf op.VarArg 0 1 0)) (size (σ .code)) (abcOf op.VarArg 0 2 0)) m₀) (setH 0 0 (h .heads)) (pl (setw 0 vfst) ∷ edit (here (σ .code)) (σ .code)) (σ .free) (σ .tab)
           back = rw same-words x

@@ -17,7 +17,7 @@ use Rattle.model.specs.declared.ExprKind.the-variants as kind
 use Rattle.model.specs.declared.ExprContext.{ExprContext}
 use Rattle.model.specs.declared.State.{State}
 use Rattle.model.specs.Descriptor.{with-kind, with-jumps, isKind, tagOf}
-use Rattle.constants.specs.declared.Val.the-variants.{Number}
+use Rattle.constants.specs.declared.Val.the-variants as val
 use Rattle.model.specs.Values.{Value, Kind, nil as vnil, truth as vtruth, number as vnumber, text as vtext, other}
 use Rattle.model.specs.Jumps.{word, jump-list, concat-jumps, linked}
 use Rattle.model.specs.Conditions.{bit}
@@ -244,7 +244,7 @@ module _ (Γ : Env) (s : State) (m : Buffers) (H : ℕ → ℕ) (e : ExprContext
 
   load-number-at : Is4 Γ s m H e σ (kc (number (e .bits))) → Goal₁ (kc (number (e .bits)))
   unfolding load-kind d2r
-  load-number-at h = (ends-then (sim-add (h .1) [] (Number (e .number) (e .bits)) tt) (λ i s₁ m₁ p.
+  load-number-at h = (ends-then (sim-add (h .1) [] (val.Num (e .nval) (e .bits)) tt) (λ i s₁ m₁ p.
       by-word (kc (number (e .bits))) (val (vnumber (e .bits))) (aBxOf op.LoadK r i) (addK (number (e .bits)) σ) s₁ m₁ refl (p .1 .0) (p .1 .1 .1) (λ us n z.
       (rw (p .1 .0) below, (listed-include (number (e .bits)) (σ .tab), z ∙ ap (aBxOf op.LoadK r) (p .0 ∙ sym (place-include (number (e .bits)) (σ .tab))))))))
 

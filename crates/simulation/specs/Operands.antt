@@ -147,7 +147,7 @@ module _ (Γ : Env) (s : State) (m : Buffers) (e : ExprContext) (f : ℕ) (σ : 
   -- a numeral, which is listed now
   rk-number : Goal (kc (number (e .bits)))
   unfolding rk-kind near rkK rkC
-  rk-number h d n = rw (rk-at kind.KNum e s m (d .is .0 .0)) (ends-then (sim-add now [] (val.Number (e .number) (e .bits)) tt) (λ i s′ m′ p.
+  rk-number h d n = rw (rk-at kind.KNum e s m (d .is .0 .0)) (ends-then (sim-add now [] (val.Num (e .nval) (e .bits)) tt) (λ i s′ m′ p.
       rw (chosen (leb i maxIndexRk) (return (with-kind kind.K i e)) (exp2anyreg e) s′ m′, near-is now i c (p .0)) (go i s′ m′ p (isNear c (σ .tab)) refl)))
     where
       c : Constant
@@ -173,8 +173,8 @@ module _ (Γ : Env) (s : State) (m : Buffers) (e : ExprContext) (f : ℕ) (σ : 
   rk-con : (v : Constant) → Goal (kc v)
   unfolding rk-kind rkK rkC
   rk-con nil = rk-small val.Nil tt (λ s m. refl) refl
-  rk-con (truth true) = rk-small (val.Truth true) tt (λ s m. refl) refl
-  rk-con (truth false) = rk-small (val.Truth false) tt (λ s m. refl) refl
+  rk-con (truth true) = rk-small (val.Bool true) tt (λ s m. refl) refl
+  rk-con (truth false) = rk-small (val.Bool false) tt (λ s m. refl) refl
   rk-con (number n) = λ h d z. subst (λ i. Goal (kc (number i))) (d .is .0 .1 .0) rk-number h d z
   rk-con (text x) = rk-text x
 

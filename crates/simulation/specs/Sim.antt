@@ -105,7 +105,7 @@ module _ (Γ : Env) (s : State) (m : Buffers) (H : ℕ → ℕ) (e : ExprContext
   IsC nil = e .kind ≡ kind.Nil
   IsC (truth true) = e .kind ≡ kind.True
   IsC (truth false) = e .kind ≡ kind.False
-  IsC (number n) = (e .kind ≡ kind.KNum) × ((e .bits ≡ n) × (e .number ≡ ofBits binary64 n))
+  IsC (number n) = (e .kind ≡ kind.KNum) × ((e .bits ≡ n) × (e .nval ≡ ofBits binary64 n))
   IsC (text x) = (e .kind ≡ kind.K) × ((e .info ≡ place (text x) (σ .tab)) × Listed (text x) (σ .tab))
 
   abbrev pub Is4 : K4 → Type 0

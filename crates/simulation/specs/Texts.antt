@@ -32,7 +32,7 @@ use Rattle.model.specs.Claims.{Bytes}
 
 module _ (s : List ℕ) where
   abbrev pub ShortText : Text → Type 0
-  ShortText t = Short s (val.Text (t .start) (t .len))
+  ShortText t = Short s (val.Str (t .start) (t .len))
 
   abbrev pub ShortLeaf : Leaf → Type 0
   ShortLeaf leaf.Nil = Unit {0}

@@ -100,14 +100,14 @@ module _ {Γ : Env} {s : State} {m : Buffers} {e : ExprContext} {f : ℕ} (p : P
       under : Under (dv p .st .nxt) (dv p .st .code)
       under = dv-new (Γ .n) (h .some) p (h .new) .on .old
 
-      tested : (t : Bool) → (is-numeral e && is-numeral (newOf kind.KNum 0)) ≡ t → const-fold ar.Unm e (newOf kind.KNum 0) ≡ elim t [ true ↦ foldOf ar.Unm (e .number) (ofBits binary64 0) | false ↦ Kept ]
-      tested t z = ap (λ (b : Bool). elim b [ true ↦ foldOf ar.Unm (e .number) (ofBits binary64 0) | false ↦ Kept ]) z
+      tested : (t : Bool) → (is-numeral e && is-numeral (newOf kind.KNum 0)) ≡ t → const-fold ar.Unm e (newOf kind.KNum 0) ≡ elim t [ true ↦ foldOf ar.Unm (e .nval) (ofBits binary64 0) | false ↦ Kept ]
+      tested t z = ap (λ (b : Bool). elim b [ true ↦ foldOf ar.Unm (e .nval) (ofBits binary64 0) | false ↦ Kept ]) z
 
       go : (n : Option ℕ) → NumIs Γ s m e n (dv p .st) → ((v : ℕ) → n ≡ some v → dv p .st .free ≡ f) → Ends (unless-folded (const-fold ar.Unm e (newOf kind.KNum 0)) e (code-unary op.Unm e) s m) (λ e′ s′ m′. SimD Γ s′ m′ e′ (negJoin (folds ar.Unm n n) f (dv p)))
       go none q fr = rw (tested false (rw q refl)) kept
       go (some v) q fr = rw (tested true (rw (numeral-true e v (q .0)) refl) ∙ second v (q .0)) (each (foldOf ar.Unm (ofBits binary64 v) (ofBits binary64 v)) refl)
         where
-          second : (v : ℕ) → Numeral e v → foldOf ar.Unm (e .number) (ofBits binary64 0) ≡ foldOf ar.Unm (ofBits binary64 v) (ofBits binary64 v)
+          second : (v : ℕ) → Numeral e v → foldOf ar.Unm (e .nval) (ofBits binary64 0) ≡ foldOf ar.Unm (ofBits binary64 v) (ofBits binary64 v)
           second v n = rw (n .double) (unm-second (ofBits binary64 v) (ofBits binary64 0) (ofBits binary64 v))
 
           each : (w : Fold) → foldOf ar.Unm (ofBits binary64 v) (ofBits binary64 v) ≡ w → Ends (unless-folded w e (code-unary op.Unm e) s m) (λ e′ s′ m′. SimD Γ s′ m′ e′ (negJoin w f (dv p)))

@@ -5,6 +5,7 @@ use mathlib.Core.Bool.{false, true≢false}
 use mathlib.Core.List.{[], _∷_}
 use mathlib.Core.Logic.{⊎-elim}
 use mathlib.Core.Path.{_≡_, refl, _∙_}
+use borrow.Author.Tests.{not-false}
 use types.Run.{OneOf}
 use denote.Enum.Declared.{tagOf}
 use Rattle.model.specs.declared.ExprContext.{ExprContext}
@@ -12,12 +13,12 @@ use Rattle.model.specs.declared.State.{State}
 use Rattle.model.specs.Steps.{Buffers}
 use Rattle.model.specs.Discharge.{exp2anyreg}
 use Rattle.discharge.specs.declared.Want.{Want}
-use Rattle.discharge.specs.declared.Want.the-variants.{Value, Load, Reg, Next, Any, Val, Rk}
+use Rattle.discharge.specs.declared.Want.the-variants.{Vars, Load, Reg, Next, Any, Val, Rk}
 use Rattle.discharge.specs.declared.Spot.{Spot}
 use Rattle.discharge.specs.declared.Spot.the-variants as spot
 use Rattle.discharge.specs.Laws.{val-jumps}
 use Rattle.discharge.specs.Wants.{is-plain, reg-of, spotIs}
-use Rattle.discharge.specs.Bringing.{some-jumps, spot-as, as-told, plain-stays, reg-at, load-at}
+use Rattle.discharge.specs.Bringing.{spot-as, as-told, plain-stays, reg-at, load-at}
 use Rattle.discharge.proofs.Want.{the-type}
 use borrow.Author.Needs.{needs}
 use Rattle.discharge.proofs.spot_of.Statement.{statement}
@@ -29,12 +30,12 @@ none-between n a b = ⊎-elim (λ x. omega arith) (⊎-elim (λ x. omega arith) 
 -- the last three go to any register
 anywhere-else : (w : Want) (reg : ℕ) (e : ExprContext) (s : State) (r : Spot) (m : Buffers) → OneOf (0 ∷ 4 ∷ 5 ∷ 6 ∷ []) (tagOf the-type w) → is-plain w e ≡ false →
     exp2anyreg e s m ≡ spotIs Next e s r m → reg-of w reg e s m ≡ spotIs w e s r m
-anywhere-else Value reg e s r m k q h = absurd (true≢false q)
+anywhere-else Vars reg e s r m k q h = absurd (true≢false q)
 anywhere-else Load reg e s r m k q h = absurd (none-between 1 (omega arith) (omega arith) k)
 anywhere-else Reg reg e s r m k q h = absurd (none-between 2 (omega arith) (omega arith) k)
 anywhere-else Next reg e s r m k q h = absurd (none-between 3 (omega arith) (omega arith) k)
 anywhere-else Any reg e s r m k q h = h ∙ spot-as Any e s r m refl
-anywhere-else Val reg e s r m k q h = val-jumps e s m (some-jumps _ q) ∙ h ∙ spot-as Val e s r m refl
+anywhere-else Val reg e s r m k q h = val-jumps e s m (not-false _ q) ∙ h ∙ spot-as Val e s r m refl
 anywhere-else Rk reg e s r m k q h = h ∙ spot-as Rk e s r m refl
 
 plain-requires : tie.Need-plain-requires

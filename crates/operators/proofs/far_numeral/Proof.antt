@@ -1,7 +1,7 @@
 -- `operators::far_numeral` meets its contract, by whether it is a numeral, and those of `find_numeral` and `is_far`. Assumes nothing.
 use mathlib.Core.Path.{refl, _∙_}
 use mathlib.Core.List.{[]}
-use Rattle.constants.specs.declared.Val.the-variants.{Number}
+use Rattle.constants.specs.declared.Val.the-variants as val
 use Rattle.operators.specs.Laws.{far-is, far-not}
 use borrow.Author.Needs.{needs}
 use Rattle.operators.proofs.far_numeral.Statement.{statement}
@@ -21,7 +21,7 @@ returns c =
     let p3 = c .before .before .before in
     let p4 = p3 .before in
     let a = p4 .before .before .before .args in
-    λ cs ls p. far-is (a .e) (a .st) cs ls _ _ p ((p4 .is-numeral .ensures) ∙ (p3 .if1 .taken)) ((c .before .find-numeral .ensures) p [] (Number (a .e .number) (a .e .bits)) refl) (c .is-far .ensures)
+    λ cs ls p. far-is (a .e) (a .st) cs ls _ _ p ((p4 .is-numeral .ensures) ∙ (p3 .if1 .taken)) ((c .before .find-numeral .ensures) p [] (val.Num (a .e .nval) (a .e .bits)) refl) (c .is-far .ensures)
 
 returns-2 : tie.Need-returns-2
 returns-2 c =
