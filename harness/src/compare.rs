@@ -210,7 +210,7 @@ fn enough(sum: &Tally, met: [u64; 4]) -> Vec<String> {
 }
 
 /// `share`: of each generator's chunks one in so many.
-pub fn run(share: u64) -> i32 {
+pub fn run(share: u64, round: u8) -> i32 {
     let begun = Instant::now();
     let mut b = buffers();
     let mut all: Vec<Tally> = Vec::new();
@@ -220,7 +220,7 @@ pub fn run(share: u64) -> i32 {
         let mut bytes = Vec::new();
         let mut r = Rng::new(k as u64 + 1);
         for i in 0..kind.chunks.div_ceil(share) {
-            make(k, i * share, &mut bytes);
+            make(k, round, i * share, &mut bytes);
             let mut h = DefaultHasher::new();
             bytes.hash(&mut h);
             seen.insert(h.finish());

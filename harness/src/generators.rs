@@ -1,4 +1,4 @@
-//! Generators of chunks. Each makes its i-th chunk from a seed of its own, so that every run makes the same chunks.
+//! Generators of chunks. Each makes its i-th chunk of a round from a seed of its own, so that every run of a round makes the same chunks.
 use crate::chunks::{ADD, AND, EQ, LT, NEG, NOT, OR, POW, Rng, Writer};
 
 const ALL: &[u8] = &[0, 1, 2, 3, 4, 5, 6, 7, 8, 9, 10, 11, 12, 13, 14];
@@ -318,9 +318,9 @@ pub const KINDS: &[Kind] = &[
     Kind { name: "long-lists", chunks: 800, about: "jumps over up to 128,000 words, and, or of up to 20,000 operands, 258 to 3,000 constants before the last formula" },
 ];
 
-/// The i-th chunk of a generator, into `b`.
-pub fn make(kind: usize, i: u64, b: &mut Vec<u8>) {
-    let mut r = Rng::new((kind as u64) << 40 | i);
+/// The i-th chunk of a generator in a round, into `b`: each round has seeds of its own (long-code has none, and is the same in every round).
+pub fn make(kind: usize, round: u8, i: u64, b: &mut Vec<u8>) {
+    let mut r = Rng::new((kind as u64) << 40 | u64::from(round) << 32 | i);
     let r = &mut r;
     let made = match KINDS[kind].name {
         "small" => { let n = if r.one_in(200) { 0 } else { r.between(1, 3) }; whole(r, &MIXED, 4, n, 5) }

@@ -26,12 +26,13 @@ fn run() -> i32 {
         ["bench", only] => bench::run(Some(only)),
         ["clearing"] => { bench::clearing(); 0 }
         ["profile", who, nodes, shape, constants, times] => { bench::profile(nodes.parse().unwrap(), shape == "deep", constants.parse().unwrap(), who == "rust", times.parse().unwrap()); 0 }
-        ["compare"] => compare::run(1),
-        ["compare", share] => compare::run(share.parse().unwrap()),
+        ["compare"] => compare::run(1, 0),
+        ["compare", share] => compare::run(share.parse().unwrap(), 0),
+        ["compare", share, round] => compare::run(share.parse().unwrap(), round.parse().unwrap()),
         ["list", file] => compare::listed(&chunks_of(file)),
         ["pools", file] => compare::pools(&chunks_of(file)),
         ["chunk", hex] => compare::listed(&[unhex(hex)]),
-        _ => { eprintln!("harness bench [NODES-SHAPE-CONSTANTS] | clearing | profile ours|rust NODES SHAPE CONSTANTS TIMES | compare [SHARE] | list FILE | pools FILE | chunk HEX"); 2 }
+        _ => { eprintln!("harness bench [NODES-SHAPE-CONSTANTS] | clearing | profile ours|rust NODES SHAPE CONSTANTS TIMES | compare [SHARE [ROUND]] | list FILE | pools FILE | chunk HEX"); 2 }
     }
 }
 
