@@ -8,6 +8,13 @@ ghost use lib.ListN.{length};
 use lowering::lower;
 use model::Counts;
 use model::Lowered;
+use testing::first_of;
+use testing::places;
+use testing::put;
+use testing::put_byte;
+use testing::put_times;
+use testing::zero_words;
+use testing::zeros_behind;
 
 // ---- buffers: of a fresh one only the length is told
 
@@ -97,39 +104,6 @@ fn first_values(s: &mut [u64], n: usize) -> &mut [u64] {
     s
 }
 
-fn zero_words(s: &[u32], from: usize) -> bool {
-    let mut i = from;
-    while i < s.len() {
-        if s[i] != 0 {
-            return false;
-        }
-        i += 1;
-    }
-    true
-}
-
-fn zero_bytes(s: &[u8], from: usize) -> bool {
-    let mut i = from;
-    while i < s.len() {
-        if s[i] != 0 {
-            return false;
-        }
-        i += 1;
-    }
-    true
-}
-
-fn zero_values(s: &[u64], from: usize) -> bool {
-    let mut i = from;
-    while i < s.len() {
-        if s[i] != 0 {
-            return false;
-        }
-        i += 1;
-    }
-    true
-}
-
 // ---- what is printed
 
 fn print(text: &[u8]) {
@@ -217,19 +191,6 @@ fn print_before(code: &[u32], n: usize) {
             print_fields(code[i]);
         }
     }
-}
-
-// How many places stand in the scratch: none is 0, since the chunk's header is there.
-fn places(scratch: &[u32]) -> usize {
-    let mut n = 0;
-    let mut i = 0;
-    while i < scratch.len() {
-        if scratch[i] != 0 {
-            n = i + 1;
-        }
-        i += 1;
-    }
-    n
 }
 
 fn print_places(scratch: &[u32]) {
@@ -328,27 +289,6 @@ fn print_zeros(zeros: bool) {
     print(b", not zeros");
 }
 
-// Whether code, lines, constants and pool hold zeros behind the counts.
-fn zeros_behind(
-    counts: Counts,
-    code: &[u32],
-    lines: &[u32],
-    kinds: &[u8],
-    values: &[u64],
-    pool: &[u8],
-) -> bool {
-    if zero_words(code, counts.words) {
-        if zero_words(lines, counts.words) {
-            if zero_bytes(kinds, counts.constants) {
-                if zero_values(values, counts.constants) {
-                    return zero_bytes(pool, counts.text);
-                }
-            }
-        }
-    }
-    false
-}
-
 fn print_counts(counts: Counts) {
     print_size(b"  words ", counts.words);
     print_size(b" constants ", counts.constants);
@@ -367,7 +307,16 @@ fn print_done(
 ) {
     print_counts(counts);
     print_places(scratch);
-    print_zeros(zeros_behind(counts, code, lines, kinds, values, pool));
+    print_zeros(zeros_behind(
+        counts.words,
+        counts.constants,
+        counts.text,
+        code,
+        lines,
+        kinds,
+        values,
+        pool,
+    ));
     print_words(code, counts.words);
     print_constants(kinds, values, counts.constants);
     print_sums(counts, code, lines, kinds, values, scratch);
@@ -383,14 +332,8 @@ fn print_refused(
     pool: &[u8],
     scratch: &[u32],
 ) {
-    let none = Counts {
-        words: 0,
-        constants: 0,
-        text: 0,
-        frame: 0,
-    };
     print_number(b"  refused ", wide(number));
-    let rest = zeros_behind(none, code, lines, kinds, values, pool);
+    let rest = zeros_behind(0, 0, 0, code, lines, kinds, values, pool);
     if zero_words(scratch, 0) {
         print_zeros(rest);
         return;
@@ -487,44 +430,6 @@ fn run(label: &[u8], chunk: &[u8]) {
 
 // ---- building chunks
 
-// The first n bytes, or all of them.
-fn part(s: &[u8], n: usize) -> &[u8] {
-    let start = 0;
-    if n <= s.len() {
-        return &s[start..n];
-    }
-    s
-}
-
-// Stores a byte, if there is room, and gives the place behind it.
-fn put_byte(s: &mut [u8], at: usize, b: u8) -> usize {
-    if at < s.len() {
-        s[at] = b;
-        return at + 1;
-    }
-    at
-}
-
-fn put(s: &mut [u8], at: usize, t: &[u8]) -> usize {
-    let mut i = 0;
-    let mut to = at;
-    while i < t.len() {
-        to = put_byte(s, to, t[i]);
-        i += 1;
-    }
-    to
-}
-
-fn put_times(s: &mut [u8], at: usize, n: usize, t: &[u8]) -> usize {
-    let mut left = n;
-    let mut to = at;
-    while 0 < left {
-        to = put(s, to, t);
-        left -= 1;
-    }
-    to
-}
-
 // The chunk that is `head`, n times `each`, and `tail`.
 fn repeated(label: &[u8], head: &[u8], n: usize, each: &[u8], tail: &[u8]) {
     let mut bytes = fresh_bytes();
@@ -532,7 +437,7 @@ fn repeated(label: &[u8], head: &[u8], n: usize, each: &[u8], tail: &[u8]) {
     let mut at = put(s, 0, head);
     at = put_times(s, at, n, each);
     at = put(s, at, tail);
-    run(label, part(s, at));
+    run(label, first_of(s, at));
 }
 
 // Numerals that differ in their lowest byte.
@@ -568,7 +473,7 @@ fn after(label: &[u8], head: &[u8], numbers: u8, formula: &[u8]) {
     at = put_sum(s, at, 0, 127);
     at = put_sum(s, at, 127, numbers);
     at = put(s, at, formula);
-    run(label, part(s, at));
+    run(label, first_of(s, at));
 }
 
 // ---- the cases
@@ -579,7 +484,7 @@ fn scratch_case(label: &[u8], nodes: usize) {
     let s: &mut [u8] = &mut bytes;
     let mut at = put(s, 0, b"\x00\xfb");
     at = put_times(s, at, 251, b"\x00\x00");
-    run_with(label, part(s, at), nodes);
+    run_with(label, first_of(s, at), nodes);
 }
 
 fn cases_1_to_4() {
@@ -802,7 +707,7 @@ fn tree_case(label: &[u8], instead: &[u8]) {
     let mut bytes = many_bytes();
     let s: &mut [u8] = &mut bytes;
     let at = put_tree(s, instead);
-    run_long(label, part(s, at));
+    run_long(label, first_of(s, at));
 }
 
 // Of the 65,536 words that load x and the 65,535 sums two words are missing, and `Return` and the minus signs are there.

@@ -8,6 +8,7 @@ use native.Mathlib.Nat.{add-assoc, add-zero}
 use native.Mathlib.Numerals.{add-one}
 use lib.ListN.{length, set, length-append}
 use lib.Seq.{sets}
+use Rattle.laws.specs.Stores.{sets-append}
 use Rattle.chunk.specs.Ast.{Span, Expr, one, two, many, Exprs, more, spans, spansOf, placesOf}
 use Rattle.ast.specs.Children.{childrenOf}
 use Rattle.nodes.specs.Nodes.{nodeAt}
@@ -26,12 +27,6 @@ use Rattle.nodes.specs.declared.skip.ExtentRead.the-variants as extent
 use Rattle.chunk.specs.declared.form.Walk.{Walk}
 use Rattle.chunk.specs.declared.form.WalkEnd.{WalkEnd}
 use Rattle.chunk.specs.declared.form.WalkEnd.the-variants as end
-
-sets-append : (xs ys l : List ℕ) (i : ℕ) → sets l i (xs ++ ys) ≡ sets (sets l i xs) (i + length xs) ys
-sets-append [] ys l i = ap (λ (k : ℕ). sets l k ys) (sym (add-zero i))
-sets-append (x ∷ xs) ys l i =
-    let e : suc i + length xs ≡ i + suc (length xs) = omega arith in
-    sets-append xs ys (set l i x) (suc i) ∙ ap (λ (k : ℕ). sets (sets (set l i x) (suc i) xs) k ys) e
 
 places-append : (ss ts : List Span) → placesOf (ss ++ ts) ≡ placesOf ss ++ placesOf ts
 places-append [] ts = refl

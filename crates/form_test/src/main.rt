@@ -3,6 +3,10 @@ ghost use Prim.Native.Nat.{_≤_};
 ghost use lib.ListN.{length};
 use chunk::form;
 use chunk::form::Form;
+use testing::first_of;
+use testing::put;
+use testing::put_times;
+use testing::zero_words;
 
 fn print(text: &[u8]) {
     io::write_all(1, text);
@@ -16,14 +20,6 @@ fn wide(n: u32) -> u64 {
     n as u64
 }
 
-// The first n bytes, or all of them.
-fn part(s: &[u8], n: usize) -> &[u8] {
-    if n <= s.len() {
-        return &s[..n];
-    }
-    s
-}
-
 // Sevens, so that zeros are the check's.
 fn fill(scratch: &mut [u32]) {
     let mut i = 0;
@@ -33,19 +29,8 @@ fn fill(scratch: &mut [u32]) {
     }
 }
 
-fn zeros_from(scratch: &[u32], from: usize) -> bool {
-    let mut i = from;
-    while i < scratch.len() {
-        if scratch[i] != 0 {
-            return false;
-        }
-        i += 1;
-    }
-    true
-}
-
 fn print_rest(scratch: &[u32], from: usize) {
-    if zeros_from(scratch, from) {
+    if zero_words(scratch, from) {
         print(b", zeros\n");
         return;
     }
@@ -112,35 +97,6 @@ fn show(label: &[u8], bytes: &[u8], scratch: &mut [u32]) {
     answer(bytes, scratch);
 }
 
-// Stores a byte, if there is room, and gives the place behind it.
-fn put_byte(s: &mut [u8], at: usize, b: u8) -> usize {
-    if at < s.len() {
-        s[at] = b;
-        return at + 1;
-    }
-    at
-}
-
-fn put(s: &mut [u8], at: usize, t: &[u8]) -> usize {
-    let mut i = 0;
-    let mut to = at;
-    while i < t.len() {
-        to = put_byte(s, to, t[i]);
-        i += 1;
-    }
-    to
-}
-
-fn put_times(s: &mut [u8], at: usize, n: usize, t: &[u8]) -> usize {
-    let mut left = n;
-    let mut to = at;
-    while 0 < left {
-        to = put(s, to, t);
-        left -= 1;
-    }
-    to
-}
-
 // The chunk that is `head`, n times `each`, and `tail`.
 fn repeated(label: &[u8], head: &[u8], n: usize, each: &[u8], tail: &[u8], scratch: &mut [u32]) {
     let mut bytes = [0u8; 640];
@@ -148,7 +104,7 @@ fn repeated(label: &[u8], head: &[u8], n: usize, each: &[u8], tail: &[u8], scrat
     let mut at = put(s, 0, head);
     at = put_times(s, at, n, each);
     at = put(s, at, tail);
-    show(label, part(s, at), scratch);
+    show(label, first_of(s, at), scratch);
 }
 
 // n open parentheses, and what stands in them.
@@ -178,7 +134,7 @@ fn locals(scratch: &mut [u32]) {
 fn first_bytes(bytes: &[u8], n: usize, scratch: &mut [u32]) {
     print(b"1 + x, its first ");
     print_number(n as u64);
-    answer(part(bytes, n), scratch);
+    answer(first_of(bytes, n), scratch);
 }
 
 fn cuts(bytes: &[u8], scratch: &mut [u32]) {
@@ -193,7 +149,7 @@ fn cuts(bytes: &[u8], scratch: &mut [u32]) {
 fn sum(scratch: &mut [u32]) {
     let bytes =
         b"\x00\x01\x07\x08\x00\x03\x02\x00\x00\x00\x00\x00\x00\xf0\x3f\x06\x04\x01\x00x\x00";
-    show(b"1 + x", part(bytes, 20), scratch);
+    show(b"1 + x", first_of(bytes, 20), scratch);
     print_places(scratch, 3);
     cuts(bytes, scratch);
     show(b"1 + x and a byte", bytes, scratch);
@@ -258,9 +214,9 @@ fn short_scratch() {
 
 // Zeros: no formula, and bytes behind that.
 fn zeros(bytes: &[u8; 1048577], scratch: &mut [u32]) {
-    show(b"no byte", part(bytes, 0), scratch);
-    show(b"2 zeros", part(bytes, 2), scratch);
-    show(b"1048576 zeros", part(bytes, 1048576), scratch);
+    show(b"no byte", first_of(bytes, 0), scratch);
+    show(b"2 zeros", first_of(bytes, 2), scratch);
+    show(b"1048576 zeros", first_of(bytes, 1048576), scratch);
     show(b"1048577 zeros", bytes, scratch);
 }
 

@@ -8,3 +8,6 @@ or-false false b h = (refl, h)
 
 pub no-and : (a b : Bool) → a ≡ false → (a && b) ≡ false
 no-and a b h = rw h refl
+
+pub yes-and : {a b r : Bool} → a ≡ true → b ≡ r → (a && b) ≡ r
+yes-and h e = rw h e

@@ -11,6 +11,8 @@ use listing::listing;
 use lowering::lower;
 use model::Counts;
 use model::Lowered;
+use testing::places;
+use testing::zeros_behind;
 
 // ---- what `weavelist` lends: of a fresh buffer only the length is told
 
@@ -88,74 +90,6 @@ fn print_bytes(s: &[u8]) {
     }
 }
 
-// ---- what stands behind the counts
-
-fn zero_words(s: &[u32], from: usize) -> bool {
-    let mut i = from;
-    while i < s.len() {
-        if s[i] != 0 {
-            return false;
-        }
-        i += 1;
-    }
-    true
-}
-
-fn zero_bytes(s: &[u8], from: usize) -> bool {
-    let mut i = from;
-    while i < s.len() {
-        if s[i] != 0 {
-            return false;
-        }
-        i += 1;
-    }
-    true
-}
-
-fn zero_values(s: &[u64], from: usize) -> bool {
-    let mut i = from;
-    while i < s.len() {
-        if s[i] != 0 {
-            return false;
-        }
-        i += 1;
-    }
-    true
-}
-
-// The end of the places, behind which all are zero: no place is 0. What is left there by another chunk makes it too large.
-fn places(scratch: &[u32]) -> usize {
-    let mut n = 0;
-    let mut i = 0;
-    while i < scratch.len() {
-        if scratch[i] != 0 {
-            n = i + 1;
-        }
-        i += 1;
-    }
-    n
-}
-
-fn zeros_behind(
-    counts: Counts,
-    code: &[u32],
-    lines: &[u32],
-    kinds: &[u8],
-    values: &[u64],
-    pool: &[u8],
-) -> bool {
-    if zero_words(code, counts.words) {
-        if zero_words(lines, counts.words) {
-            if zero_bytes(kinds, counts.constants) {
-                if zero_values(values, counts.constants) {
-                    return zero_bytes(pool, counts.text);
-                }
-            }
-        }
-    }
-    false
-}
-
 fn print_zeros(zeros: bool) {
     if zeros {
         print(b", zeros\n");
@@ -177,7 +111,16 @@ fn print_done(
     print(b"\npool ");
     print_bytes(between(pool, 0, counts.text));
     print_number(b"\nnodes ", places(scratch));
-    print_zeros(zeros_behind(counts, code, lines, kinds, values, pool));
+    print_zeros(zeros_behind(
+        counts.words,
+        counts.constants,
+        counts.text,
+        code,
+        lines,
+        kinds,
+        values,
+        pool,
+    ));
 }
 
 // Of a refused chunk the list says all.
