@@ -1,6 +1,6 @@
 -- Operators step by step: what a definition comes to once the answers of its steps are known, as the code reads them. Assumes nothing.
 use Prim.Native.Nat.{ℕ}
-use mathlib.Core.Bool.{Bool, true, false, not, _&&_, false≢true}
+use mathlib.Core.Bool.{Bool, true, false, not, _&&_, false≢true, true≢false}
 use mathlib.Core.List.{List, []}
 use mathlib.Core.Path.{_≡_, refl, ap, _∙_}
 use lib.ListN.{set}
@@ -10,7 +10,6 @@ use Rattle.opcodes.specs.declared.OpCode.{OpCode}
 use Rattle.opcodes.specs.declared.OpCode.the-variants as op
 use Rattle.folding.specs.Folding.{foldOf}
 use Rattle.folding.specs.declared.Arith.{Arith}
-use Rattle.folding.specs.declared.Arith.the-variants as arith
 use Rattle.folding.specs.declared.Fold.{Fold}
 use Rattle.folding.specs.declared.Fold.the-variants.{Folded, Kept}
 use Rattle.folding.specs.declared.Numeral.{Numeral}
@@ -20,12 +19,13 @@ use Rattle.constants.specs.declared.Val.the-variants as val
 use Rattle.constants.specs.declared.Found.{Found}
 use Rattle.ast.specs.declared.BinOp.{BinOp}
 use Rattle.ast.specs.declared.BinOp.the-variants as bin
+use Rattle.ast.specs.declared.UnOp.{UnOp}
 use Rattle.ast.specs.declared.UnOp.the-variants as un
-use Rattle.model.specs.declared.ExprKind.the-variants.{KNum, Relocable, NonReloc}
+use Rattle.model.specs.declared.ExprKind.the-variants.{Relocable, NonReloc}
 use Rattle.model.specs.declared.ExprContext.{ExprContext}
 use Rattle.model.specs.declared.State.{State}
 use Rattle.model.specs.Steps.{Buffers, bufs, Step, Result, done, refused, andThen}
-use Rattle.model.specs.Descriptor.{newOf, with-kind, with-jumps, has-jumps, isKind, is-numeral}
+use Rattle.model.specs.Descriptor.{with-kind, with-jumps, has-jumps, isKind, is-numeral}
 use Rattle.model.specs.Jumps.{word, isOp}
 use Rattle.model.specs.Emission.{emit-abc, emit-jump, concat}
 use Rattle.model.specs.Discharge.{discharge-vars, free-expr, exp2nextreg, exp2anyreg, exp2val, exp2rk, rk}
@@ -37,7 +37,7 @@ use Rattle.conditions.specs.Parts.{relocable, unary, tested}
 use Rattle.discharge.specs.Bringing.{rk-stays}
 use Rattle.operands.specs.declared.Operation.{Operation}
 use Rattle.operands.specs.declared.Operation.the-variants.{And, Or, Concat, Arithmetic, Comparison}
-use Rattle.operators.specs.Parts.{chosen, arith-of, arith-left, jump-of, comp-second, concat-word, concat-left, joined-to}
+use Rattle.operators.specs.Parts.{chosen, arith-of, arith-left, jump-of, comp-second, concat-word, concat-left, joined-to, isNot, unaryOp, fold-unary}
 
 -- ---- folding
 
@@ -343,23 +343,21 @@ module _ (e₁ e₂ : ExprContext) (s : State) (code ls ks vs p : List ℕ) wher
 
 -- ---- unary operators
 
-module _ (e : ExprContext) (s : State) (m : Buffers) {z : ExprContext} (w : newOf KNum 0 ≡ z) where
-  neg-is : {f : Fold} → const-fold arith.Unm e z ≡ f → code-unop un.Neg e s m ≡ unless-folded f e (code-unary op.Unm e) s m
-  unfolding code-unop
-  neg-is q =
-      ap (λ (x : ExprContext). unless-folded (const-fold arith.Unm e x) e (code-unary op.Unm e) s m) w ∙ ap (λ (f : Fold). unless-folded f e (code-unary op.Unm e) s m) q
-
-  pub neg-folded : {n : Numeral} {d : ExprContext} → const-fold arith.Unm e z ≡ Folded n → with-number n e ≡ d → code-unop un.Neg e s m ≡ done d s m
-  neg-folded h q = neg-is h ∙ ap (λ (d : ExprContext). done d s m) q
-
-  pub neg-kept : const-fold arith.Unm e z ≡ Kept → code-unop un.Neg e s m ≡ code-unary op.Unm e s m
-  neg-kept h = neg-is h
-
 module _ (e : ExprContext) (s : State) (m : Buffers) where
-  pub not-is : code-unop un.Not e s m ≡ code-not e s m
+  pub unop-not : (o : UnOp) → isNot o ≡ true → code-unop o e s m ≡ code-not e s m
   unfolding code-unop
-  not-is = refl
+  unop-not un.Neg h = absurd (false≢true h)
+  unop-not un.Not h = refl
+  unop-not un.Len h = absurd (false≢true h)
 
-  pub len-is : code-unop un.Len e s m ≡ code-unary op.Len e s m
+  unop-is : (o : UnOp) {f : Fold} → isNot o ≡ false → fold-unary o e ≡ f → code-unop o e s m ≡ unless-folded f e (code-unary (unaryOp o) e) s m
   unfolding code-unop
-  len-is = refl
+  unop-is un.Neg h q = ap (λ (f : Fold). unless-folded f e (code-unary op.Unm e) s m) q
+  unop-is un.Not h q = absurd (true≢false h)
+  unop-is un.Len h q = ap (λ (f : Fold). unless-folded f e (code-unary op.Len e) s m) q
+
+  pub unop-folded : (o : UnOp) {n : Numeral} {d : ExprContext} → isNot o ≡ false → fold-unary o e ≡ Folded n → with-number n e ≡ d → code-unop o e s m ≡ done d s m
+  unop-folded o h q w = unop-is o h q ∙ ap (λ (d : ExprContext). done d s m) w
+
+  pub unop-kept : (o : UnOp) {k : OpCode} → isNot o ≡ false → fold-unary o e ≡ Kept → unaryOp o ≡ k → code-unop o e s m ≡ code-unary k e s m
+  unop-kept o h q w = unop-is o h q ∙ ap (λ (k : OpCode). code-unary k e s m) w

@@ -5,13 +5,18 @@ use Rattle.instructions.specs.Word.{setBOf}
 use Rattle.opcodes.specs.declared.OpCode.{OpCode}
 use Rattle.opcodes.specs.declared.OpCode.the-variants as op
 use Rattle.folding.specs.declared.Arith.{Arith}
-use Rattle.model.specs.declared.ExprKind.the-variants.{Jmp, Relocable}
+use Rattle.folding.specs.declared.Arith.the-variants as arith
+use Rattle.folding.specs.declared.Fold.{Fold}
+use Rattle.folding.specs.declared.Fold.the-variants.{Kept}
+use Rattle.ast.specs.declared.UnOp.{UnOp}
+use Rattle.ast.specs.declared.UnOp.the-variants as un
+use Rattle.model.specs.declared.ExprKind.the-variants.{KNum, Jmp, Relocable}
 use Rattle.model.specs.declared.ExprContext.{ExprContext}
 use Rattle.model.specs.Steps.{Step, _>>=_, _>>_, return, code-now}
-use Rattle.model.specs.Descriptor.{with-kind, with-jumps, isKind}
+use Rattle.model.specs.Descriptor.{newOf, with-kind, with-jumps, isKind}
 use Rattle.model.specs.Jumps.{word, isOp}
 use Rattle.model.specs.Discharge.{change-word, free-expr, exp2nextreg, exp2anyreg, exp2rk, rk}
-use Rattle.model.specs.Operators.{arithOp, free-both, code-concat, emit-comp}
+use Rattle.model.specs.Operators.{arithOp, const-fold, free-both, code-concat, emit-comp}
 use Rattle.conditions.specs.Parts.{relocable}
 
 -- the second of two where the flag is set, else the first
@@ -65,3 +70,19 @@ joined-to e₁ e₂ = do
       e₄ ← exp2nextreg e₂
       code-concat e₁ e₄
   ]
+
+-- of a unary operator: whether it is `not`; its opcode; what it folds to
+abbrev pub isNot : UnOp → Bool
+isNot un.Neg = false
+isNot un.Not = true
+isNot un.Len = false
+
+abbrev pub unaryOp : UnOp → OpCode
+unaryOp un.Neg = op.Unm
+unaryOp un.Not = op.Not
+unaryOp un.Len = op.Len
+
+abbrev pub fold-unary : UnOp → ExprContext → Fold
+fold-unary un.Neg e = const-fold arith.Unm e (newOf KNum 0)
+fold-unary un.Not e = Kept
+fold-unary un.Len e = Kept

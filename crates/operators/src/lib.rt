@@ -9,7 +9,7 @@ ghost use Rattle.model.specs.declared.ExprKind.the-variants.{NonReloc};
 ghost use Rattle.model.specs.Descriptor.{is-numeral, isKind, has-jumps};
 ghost use Rattle.model.specs.Discharge.{exp2rk as exp2rkOf};
 ghost use Rattle.model.specs.Operators.{arithOp, const-fold, with-number, code-arith, code-unary, code-concat, is-far, far-numeral, either as eitherOf, emit-comp, code-comp, operand as operandOf, before-right, code-and, code-or, join-concat, after-right, code-unop};
-ghost use Rattle.operators.specs.Parts.{chosen, arith-of, arith-left, jump-of, comp-second, concat-word, concat-left, joined-to};
+ghost use Rattle.operators.specs.Parts.{chosen, arith-of, arith-left, jump-of, comp-second, concat-word, concat-left, joined-to, isNot, unaryOp, fold-unary};
 use ast::BinOp;
 use ast::UnOp;
 use conditions::bit;
@@ -596,7 +596,38 @@ pub fn postfix(
 
 // ---- unary operators
 
-// A negated numeral is folded, unless it is a NaN; the operand of `Len` is a register, and that of `Unm` too (difference 6).
+fn is_not(op: UnOp) -> bool
+    ensures { λ r. ⌜ isNot op ≡ r ⌝ }
+{
+    match op {
+        UnOp::Neg => false,
+        UnOp::Not => true,
+        UnOp::Len => false,
+    }
+}
+
+fn unary_op(op: UnOp) -> OpCode
+    ensures { λ r. ⌜ unaryOp op ≡ r ⌝ }
+{
+    match op {
+        UnOp::Neg => OpCode::Unm,
+        UnOp::Not => OpCode::Not,
+        UnOp::Len => OpCode::Len,
+    }
+}
+
+// A negated numeral is folded, unless it is a NaN.
+fn fold_unary(op: UnOp, e: ExprContext) -> Fold
+    ensures { λ r. ⌜ fold-unary op e ≡ r ⌝ }
+{
+    match op {
+        UnOp::Neg => const_fold(Arith::Unm, e, ExprContext::new(ExprKind::KNum, 0)),
+        UnOp::Not => Fold::Kept,
+        UnOp::Len => Fold::Kept,
+    }
+}
+
+// The operand of `Len` is a register, and that of `Unm` too (difference 6). One call for both, which the compiler inlines.
 pub fn prefix(
     code: &mut [u32],
     lines: &mut [u32],
@@ -609,15 +640,12 @@ pub fn prefix(
 ) -> Described
     ensures { λ r. ⌜ code-unop op e st (bufs (now (code .entry)) (now (lines .entry)) (now (kinds .entry)) (now (values .entry)) (now (pool .entry))) ≡ describedIs r (bufs (now (code .exit)) (now (lines .exit)) (now (kinds .exit)) (now (values .exit)) (now (pool .exit))) ⌝ }
 {
-    match op {
-        UnOp::Neg => {
-            let folded = const_fold(Arith::Unm, e, ExprContext::new(ExprKind::KNum, 0));
-            match folded {
-                Fold::Folded(n) => Described::Done(st, with_number(e, n)),
-                Fold::Kept => code_unary(code, lines, kinds, values, pool, st, OpCode::Unm, e),
-            }
-        }
-        UnOp::Not => code_not(code, lines, kinds, values, pool, st, e),
-        UnOp::Len => code_unary(code, lines, kinds, values, pool, st, OpCode::Len, e),
+    if is_not(op) {
+        return code_not(code, lines, kinds, values, pool, st, e);
+    }
+    let folded = fold_unary(op, e);
+    match folded {
+        Fold::Folded(n) => Described::Done(st, with_number(e, n)),
+        Fold::Kept => code_unary(code, lines, kinds, values, pool, st, unary_op(op), e),
     }
 }
