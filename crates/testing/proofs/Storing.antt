@@ -43,17 +43,17 @@ times-none zero t h = refl
 times-none (suc n) t h = absurd (omega arith)
 
 -- `all` from `at₀` on in s₀ is `rest` from `at` on in s
-pub record Left (s₀ : List ℕ) (at₀ : ℕ) (all s : List ℕ) (at : ℕ) (rest : List ℕ) : Type 0 where
+pub record Remains (s₀ : List ℕ) (at₀ : ℕ) (all s : List ℕ) (at : ℕ) (rest : List ℕ) : Type 0 where
   pub kept : length s ≡ length s₀
   pub stores : sets s₀ at₀ all ≡ sets s at rest
   pub place : behind (length s₀) at₀ (length all) ≡ behind (length s₀) at (length rest)
 
-pub left-all : (s : List ℕ) (at : ℕ) (t : List ℕ) → Left s at t s at t
+pub left-all : (s : List ℕ) (at : ℕ) (t : List ℕ) → Remains s at t s at t
 left-all s at t = record { kept = refl; stores = refl; place = refl }
 
 module _ {s₀ : List ℕ} {at₀ : ℕ} {all s : List ℕ} {at : ℕ} where
   -- the first of what is left is stored
-  left-less : (t u : List ℕ) {s₁ : List ℕ} {at₁ : ℕ} → Left s₀ at₀ all s at (t ++ u) → sets s at t ≡ s₁ → behind (length s) at (length t) ≡ at₁ → Left s₀ at₀ all s₁ at₁ u
+  left-less : (t u : List ℕ) {s₁ : List ℕ} {at₁ : ℕ} → Remains s₀ at₀ all s at (t ++ u) → sets s at t ≡ s₁ → behind (length s) at (length t) ≡ at₁ → Remains s₀ at₀ all s₁ at₁ u
   unfolding behind
   left-less t u h e q =
       rw (← e, ← q)
@@ -63,13 +63,13 @@ module _ {s₀ : List ℕ} {at₀ : ℕ} {all s : List ℕ} {at : ℕ} where
         place = h .place ∙ omega (arith, length-append t u, h .kept);
       })
 
-  pub left-byte : (t : List ℕ) (i : ℕ) {s₁ : List ℕ} {at₁ : ℕ} → i < length t → Left s₀ at₀ all s at (drop i t) → set s at (getD t i 0) ≡ s₁ → behind (length s) at 1 ≡ at₁ → Left s₀ at₀ all s₁ at₁ (drop (i + 1) t)
+  pub left-byte : (t : List ℕ) (i : ℕ) {s₁ : List ℕ} {at₁ : ℕ} → i < length t → Remains s₀ at₀ all s at (drop i t) → set s at (getD t i 0) ≡ s₁ → behind (length s) at 1 ≡ at₁ → Remains s₀ at₀ all s₁ at₁ (drop (i + 1) t)
   left-byte t i l h e q = left-less (getD t i 0 ∷ []) (drop (i + 1) t) (rw (add-one, ← drop-cons t i 0 l) h) e q
 
-  pub left-time : (n : ℕ) (t : List ℕ) {s₁ : List ℕ} {at₁ : ℕ} → 0 < n → Left s₀ at₀ all s at (times n t) → sets s at t ≡ s₁ → behind (length s) at (length t) ≡ at₁ → Left s₀ at₀ all s₁ at₁ (times (n - 1) t)
+  pub left-time : (n : ℕ) (t : List ℕ) {s₁ : List ℕ} {at₁ : ℕ} → 0 < n → Remains s₀ at₀ all s at (times n t) → sets s at t ≡ s₁ → behind (length s) at (length t) ≡ at₁ → Remains s₀ at₀ all s₁ at₁ (times (n - 1) t)
   left-time n t l h e q = left-less t (times (n - 1) t) (rw (← times-more n t l) h) e q
 
   -- nothing is left
-  pub left-none : {rest : List ℕ} → rest ≡ [] → Left s₀ at₀ all s at rest → (sets s₀ at₀ all ≡ s) × (behind (length s₀) at₀ (length all) ≡ at)
+  pub left-none : {rest : List ℕ} → rest ≡ [] → Remains s₀ at₀ all s at rest → (sets s₀ at₀ all ≡ s) × (behind (length s₀) at₀ (length all) ≡ at)
   unfolding behind
   left-none e h = let l = rw e at h in (l .stores, l .place ∙ omega arith)

@@ -1,4 +1,4 @@
-// What the test programs share: whether buffers hold zeros behind a count, and chunks built from parts, in a buffer that may be too short.
+// What form_test, cases_test and vectors_test share: whether buffers hold zeros behind a count, and chunks built from parts, in a buffer that may be too short.
 ghost use mathlib.Core.Path.{_≡_};
 ghost use mathlib.Core.Bool.{_&&_};
 ghost use Prim.Native.Nat.{_*_};
@@ -9,6 +9,7 @@ ghost use Rattle.testing.specs.Putting.{times, behind};
 
 // ---- zeros
 
+// Each tells whether every number from an index on is 0.
 pub fn zero_words(s: &[u32], from: usize) -> bool
     ensures { λ r. ⌜ zeros-from (now (s .entry)) from ≡ r ⌝ }
 {

@@ -2,12 +2,12 @@
 use Prim.Native.Nat.{_-_, _≤_}
 use native.Mathlib.Omega.{arith}
 use lib.ListN.{length, drop, drop-of-length-le}
-use Rattle.testing.proofs.Storing.{Left, left-all, left-byte, left-none}
+use Rattle.testing.proofs.Storing.{Remains, left-all, left-byte, left-none}
 use Rattle.testing.proofs.put.Statement.{statement}
 use Rattle.testing.proofs.put.Tie as tie
 
 abbrev Inv-loop : tie.InvT-loop
-Inv-loop s₀ at t i₀ to₀ s i to = Left s₀ at t s to (drop i t)
+Inv-loop s₀ at t i₀ to₀ s i to = Remains s₀ at t s to (drop i t)
 
 abbrev μ-loop : tie.MeasureT-loop
 μ-loop s₀ at t i₀ to₀ s i to = length t - i

@@ -2,12 +2,12 @@
 use mathlib.Core.Path.{ap, sym, _∙_}
 use native.Mathlib.Omega.{arith}
 use Rattle.testing.specs.Putting.{times, behind}
-use Rattle.testing.proofs.Storing.{Left, left-all, left-time, left-none, times-none, length-times}
+use Rattle.testing.proofs.Storing.{Remains, left-all, left-time, left-none, times-none, length-times}
 use Rattle.testing.proofs.put_times.Statement.{statement}
 use Rattle.testing.proofs.put_times.Tie as tie
 
 abbrev Inv-loop : tie.InvT-loop
-Inv-loop s₀ at n t left₀ to₀ s left to = Left s₀ at (times n t) s to (times left t)
+Inv-loop s₀ at n t left₀ to₀ s left to = Remains s₀ at (times n t) s to (times left t)
 
 abbrev μ-loop : tie.MeasureT-loop
 μ-loop s₀ at n t left₀ to₀ s left to = left
