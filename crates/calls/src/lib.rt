@@ -24,6 +24,8 @@ use emission::emit_at;
 use emission::reserve_regs;
 use emission::with_free;
 use folding::Numeral;
+use instructions::A_SIZE;
+use instructions::B_SIZE;
 use instructions::Instruction;
 use instructions::NO_REG;
 use jumps::put_word;
@@ -55,7 +57,7 @@ pub fn set_multret(code: &mut [u32], st: State, e: ExprContext) -> Stepped
         raw: word_at(code, pc),
     };
     let open = i.set_b(0);
-    let placed = open.set_a((st.free % 256) as u32);
+    let placed = open.set_a((st.free % A_SIZE) as u32);
     put_word(code, pc, placed.raw);
     reserve_regs(st, 1)
 }
@@ -82,7 +84,7 @@ pub fn emit_call(
     ensures { λ r. ⌜ ((ks vs p : List ℕ) → emit-call func b line st (bufs (now (code .entry)) (now (lines .entry)) ks vs p) ≡ describedIs r (bufs (now (code .exit)) (now (lines .exit)) ks vs p)) ⌝ }
 {
     let base = func.info;
-    let i = Instruction::abc(OpCode::Call, (base % 256) as u32, (b % 512) as u32, 2);
+    let i = Instruction::abc(OpCode::Call, (base % A_SIZE) as u32, (b % B_SIZE) as u32, 2);
     let answer = emit_at(code, lines, st, i.raw, line);
     match answer {
         Given::Done(s, pc) => Described::Done(

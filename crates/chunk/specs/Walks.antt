@@ -23,14 +23,14 @@ Walked spans (parsed a at line) nodes s r s′ = (end.Done (passed at line nodes
 Walked spans (refused k) nodes s r s′ = end.Refused k ≡ r
 
 -- a walk is in the bytes, and has passed at most as many nodes as bytes
-pub record Inside (s : List ℕ) (w : Walk) : Type 0 where
+pub record Within (s : List ℕ) (w : Walk) : Type 0 where
   pub short : length s ≤ maxLength
   pub at-in : w .at ≤ length s
   pub few : w .nodes ≤ w .at
 
-abbrev pub EndInside : List ℕ → WalkEnd → Type 0
-EndInside s (end.Done w) = Inside s w
-EndInside s (end.Refused k) = Unit {0}
+abbrev pub EndWithin : List ℕ → WalkEnd → Type 0
+EndWithin s (end.Done w) = Within s w
+EndWithin s (end.Refused k) = Unit {0}
 
 -- the answer of the form check, and the scratch of n numbers as it then is
 pub record Out : Type 0 where

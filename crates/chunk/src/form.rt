@@ -3,7 +3,7 @@ ghost use mathlib.Core.Path.{_≡_};
 ghost use lib.ListN.{length, set};
 ghost use Rattle.chunk.specs.Ast.{spans, spansOf};
 ghost use Rattle.chunk.specs.Form.{exprAt, exprsAt, formOf};
-ghost use Rattle.chunk.specs.Walks.{Walked, Inside, EndInside, checked, out};
+ghost use Rattle.chunk.specs.Walks.{Walked, Within, EndWithin, checked, out};
 use crate::header;
 use crate::header::HeaderRead;
 use nodes::skip;
@@ -44,8 +44,8 @@ fn put_place(scratch: &mut [u32], i: usize, place: u32)
 
 // One expression, with `left` nestings left for it.
 fn walk_expr(chunk: &[u8], scratch: &mut [u32], varargs: bool, left: usize, w: Walk) -> WalkEnd
-    requires { ⌜ Inside (now chunk) w ⌝ }
-    ensures { λ r. ⌜ Walked spans (exprAt (now (chunk .entry)) varargs left (w .at) (w .line)) (w .nodes) (now (scratch .entry)) r (now (scratch .exit)) × EndInside (now (chunk .entry)) r ⌝ }
+    requires { ⌜ Within (now chunk) w ⌝ }
+    ensures { λ r. ⌜ Walked spans (exprAt (now (chunk .entry)) varargs left (w .at) (w .line)) (w .nodes) (now (scratch .entry)) r (now (scratch .exit)) × EndWithin (now (chunk .entry)) r ⌝ }
 {
     if left == 0 {
         return WalkEnd::Refused(Refusal::Nesting);
@@ -79,8 +79,8 @@ fn walk_exprs(
     count: usize,
     w: Walk,
 ) -> WalkEnd
-    requires { ⌜ Inside (now chunk) w ⌝ }
-    ensures { λ r. ⌜ Walked spansOf (exprsAt (exprAt (now (chunk .entry)) varargs left) count (w .at) (w .line)) (w .nodes) (now (scratch .entry)) r (now (scratch .exit)) × EndInside (now (chunk .entry)) r ⌝ }
+    requires { ⌜ Within (now chunk) w ⌝ }
+    ensures { λ r. ⌜ Walked spansOf (exprsAt (exprAt (now (chunk .entry)) varargs left) count (w .at) (w .line)) (w .nodes) (now (scratch .entry)) r (now (scratch .exit)) × EndWithin (now (chunk .entry)) r ⌝ }
 {
     let mut todo = count;
     let mut walk = w;

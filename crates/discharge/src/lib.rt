@@ -30,6 +30,7 @@ use emission::free_reg;
 use emission::get_label;
 use emission::keep;
 use emission::patch_to_here;
+use instructions::A_SIZE;
 use instructions::Instruction;
 use jumps::concat_jumps;
 use jumps::jump_list;
@@ -96,7 +97,7 @@ pub fn set_a_at(code: &mut [u32], pc: usize, a: usize)
     let i = Instruction {
         raw: word_at(code, pc),
     };
-    let changed = i.set_a((a % 256) as u32);
+    let changed = i.set_a((a % A_SIZE) as u32);
     put_word(code, pc, changed.raw);
 }
 

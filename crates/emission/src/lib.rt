@@ -12,7 +12,10 @@ ghost use Rattle.emission.specs.Parts.{freed-to};
 use constants::Added;
 use constants::Table;
 use constants::Val;
+use instructions::A_SIZE;
+use instructions::B_SIZE;
 use instructions::BITRK;
+use instructions::BX_SIZE;
 use instructions::Instruction;
 use instructions::MAX_WORDS;
 use instructions::MAXSTACK;
@@ -212,7 +215,12 @@ pub fn emit_abc(
 ) -> Given
     ensures { λ r. ⌜ ((ks vs p : List ℕ) → emit-abc op a b c st (bufs (now (code .entry)) (now (lines .entry)) ks vs p) ≡ givenIs r (bufs (now (code .exit)) (now (lines .exit)) ks vs p)) ⌝ }
 {
-    let i = Instruction::abc(op, (a % 256) as u32, (b % 512) as u32, (c % 512) as u32);
+    let i = Instruction::abc(
+        op,
+        (a % A_SIZE) as u32,
+        (b % B_SIZE) as u32,
+        (c % B_SIZE) as u32,
+    );
     emit(code, lines, st, i.raw)
 }
 
@@ -226,7 +234,7 @@ pub fn emit_abx(
 ) -> Given
     ensures { λ r. ⌜ ((ks vs p : List ℕ) → emit-abx op a bx st (bufs (now (code .entry)) (now (lines .entry)) ks vs p) ≡ givenIs r (bufs (now (code .exit)) (now (lines .exit)) ks vs p)) ⌝ }
 {
-    let i = Instruction::a_bx(op, (a % 256) as u32, (bx % 262144) as u32);
+    let i = Instruction::a_bx(op, (a % A_SIZE) as u32, (bx % BX_SIZE) as u32);
     emit(code, lines, st, i.raw)
 }
 
@@ -320,7 +328,7 @@ pub fn emit_nil(code: &mut [u32], lines: &mut [u32], st: State, from: usize) -> 
         if from <= to {
             return Stepped::Done(st);
         }
-        let longer = i.set_b((from % 512) as u32);
+        let longer = i.set_b((from % B_SIZE) as u32);
         put_word(code, pc - 1, longer.raw);
         return Stepped::Done(st);
     }

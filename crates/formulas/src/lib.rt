@@ -13,6 +13,7 @@ use discharge::exp2nextreg;
 use emission::emit_abc;
 use emission::reserve_regs;
 use expressions::compile_expr;
+use instructions::B_SIZE;
 use model::Described;
 use model::Given;
 use model::State;
@@ -68,7 +69,7 @@ fn add_return(code: &mut [u32], lines: &mut [u32], st: State, h: Header) -> Step
         st,
         OpCode::Return,
         h.locals,
-        h.formulas % 512 + 1,
+        h.formulas % B_SIZE + 1,
         0,
     );
     match answer {

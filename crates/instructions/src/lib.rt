@@ -5,7 +5,14 @@ ghost use Rattle.instructions.specs.Field.{getAt, setAt};
 ghost use Rattle.instructions.specs.Word.{opOf, opcodeOf, aOf, bOf, cOf, bxOf, sbxOf, setAOf, setBOf, setCOf, excess as excessOf, setSbxOf, abcOf, aBxOf, aSbxOf};
 use opcodes::OpCode;
 
-// ---- limits of the word layout and of the machine: all but the last two by their names in instructions.rs (the definitions have them from specs/Limits.antt)
+// ---- limits of the word layout and of the machine, by their names in instructions.rs where it has them (the definitions have all from specs/Limits.antt)
+
+// How many values A has; B, and C too; Bx. The lowering cuts operands to these, for a cast must be shown to fit.
+pub const A_SIZE: usize = 256;
+
+pub const B_SIZE: usize = 512;
+
+pub const BX_SIZE: usize = 262144;
 
 // An RK operand below this is a register, else the constant RK - 256.
 pub const BITRK: usize = 256;
@@ -20,7 +27,7 @@ pub const NO_REG: usize = 255;
 pub const MAXSTACK: usize = 250;
 
 // The largest Bx.
-pub const MAXARG_BX: usize = 262143;
+pub const MAXARG_BX: usize = BX_SIZE - 1;
 
 // sBx is Bx less this.
 pub const MAXARG_SBX: usize = MAXARG_BX / 2;

@@ -10,6 +10,8 @@ ghost use Rattle.opcodes.specs.declared.OpCode.the-variants.{Test, TestSet};
 ghost use Rattle.instructions.specs.Word.{opOf, bOf, cOf, abcOf, excess};
 ghost use Rattle.model.specs.Jumps.{word, jump-list as jumpList, behind as behindOf, get-jump-target, patch-jump, last-jump, concat-jumps, linked, get-jump-control, control as controlOf, keeps-value, need-value, retest as retestOf, patch-test-reg, remove-values, patch-list-aux};
 ghost use Rattle.jumps.specs.Walk.{Fitting, led};
+use instructions::A_SIZE;
+use instructions::BX_SIZE;
 use instructions::Instruction;
 use instructions::MAX_WORDS;
 use instructions::NO_REG;
@@ -65,7 +67,7 @@ pub fn get_jump_target(code: &[u32], list: usize) -> usize
 fn offset(pc: usize, target: usize) -> i32
     ensures { λ r. ⌜ excess (pos target -ℤ pos (pc + 1)) ≡ excess r ⌝ }
 {
-    (target % 262144) as i32 - (pc % 262144) as i32 - 1
+    (target % BX_SIZE) as i32 - (pc % BX_SIZE) as i32 - 1
 }
 
 // The list's first jump leads to word `target`.
@@ -190,7 +192,7 @@ fn retest(reg: usize, w: u32) -> u32
     if reg == NO_REG {
         return test_only(w);
     }
-    i.set_a((reg % 256) as u32).raw
+    i.set_a((reg % A_SIZE) as u32).raw
 }
 
 // A `TestSet` that controls the list's first jump becomes what `retest` says for `reg`; whether there is one.

@@ -6,10 +6,10 @@ use mathlib.Core.List.{List, [], _∷_}
 use mathlib.Core.Option.{Option, some, none}
 use native.Mathlib.Omega.{arith as nat}
 use Rattle.constants.specs.Entry.{Constant, nil as knil, truth as ktruth, number as knumber, text as ktext}
-use Rattle.model.specs.Values.{Value, number, valueOf, is-true, Kind, length-of, concatenation, Taken, taken, ask, compute, negation, folds}
+use Rattle.model.specs.Values.{Value, number, valueOf, is-true, StepKind, length-of, concatenation, Taken, taken, ask, compute, negation, folds}
 use Rattle.model.specs.Running.{same as agrees}
 use Rattle.labelled.specs.Code.{Rk, reg, con, Ex, val, cp, glob, idx, ari, neg, len, notx, cat, vfst, setw, pl}
-use Rattle.labelled.specs.Machine.{Hist, Regs, Setting, then, listOf, pick, upd, upd-same, rk, Out, at, exit, cats, eval}
+use Rattle.labelled.specs.Machine.{Hist, Regs, Setting, then, listOf, pick, upd, upd-same, rk, Outcome, at, exit, cats, eval}
 use Rattle.labelled.specs.Emission.{St, addK, flush, push, relabel, strip, hit}
 use Rattle.labelled.specs.Discharge.{K4, kc, kr, kx, kj, kd, Des4, Pair, Par4, RkS, lab, fresh, addP, freed, d2r, nextreg, viaReg, anyreg, asRk, exp2rk, late}
 use Rattle.labelled.specs.Conditions.{goIf, notS, codeNot}
@@ -174,7 +174,7 @@ module _ (Γ : Setting) where
     log-res₂ n R a (fell R′ h q ag w) = fell R′ h (re-at Γ m (lab c (p₂ .de)) (p₂ .st) R′ h m0 (b0 c) q) ag w
     log-res₂ n R a (left d b R′ v h q ag z w y) = left d b R′ v h (re-pass Γ m (lab c (p₂ .de)) (p₂ .st) (lab d (p₂ .de)) b R′ h m0 (b0 c) (dm d) q) ag z w y
 
-    res-mono : (n : ℕ) (e : Des4) (z : ℕ) (o : Out) (R R′ : Regs) (a : Taken Value) → Agree n R R′ → Res4 Γ e z o n R′ a → Res4 Γ e z o n R a
+    res-mono : (n : ℕ) (e : Des4) (z : ℕ) (o : Outcome) (R R′ : Regs) (a : Taken Value) → Agree n R R′ → Res4 Γ e z o n R′ a → Res4 Γ e z o n R a
     res-mono n e z o R R′ a ag (fell R″ h q ag′ w) = fell R″ h q (agree-trans n n R R′ R″ (omega nat) ag ag′) w
     res-mono n e z o R R′ a ag (left d b R″ v h q ag′ x w y) = left d b R″ v h q (agree-trans n n R R′ R″ (omega nat) ag ag′) x w y
 
@@ -310,20 +310,20 @@ module _ (Γ : Setting) where
         go (Folded z) e = folded-good v u z p q o₁ oₘ e
 
   -- comparisons
-  abbrev pub cmpS : Bool → Kind → Bool → Value → Value → Hist → Taken Value
+  abbrev pub cmpS : Bool → StepKind → Bool → Value → Value → Hist → Taken Value
   cmpS true o c v u h = cmpA Γ o c u v h
   cmpS false o c v u h = cmpA Γ o c v u h
 
-  own-cmp : (w : Bool) (o : Kind) (c : Bool) (x y : Rk) (f : ℕ) → Own4 (Γ .active) f (kcmp w o c x y) f
+  own-cmp : (w : Bool) (o : StepKind) (c : Bool) (x y : Rk) (f : ℕ) → Own4 (Γ .active) f (kcmp w o c x y) f
   own-cmp true o c x y f = refl
   own-cmp false o c x y f = refl
 
-  fin-cmp : (w : Bool) (o : Kind) (c : Bool) (x y : Rk) (R : Regs) (h : Hist) → finish4 Γ (kcmp w o c x y) R h ≡ cmpS w o c (rk x R) (rk y R) h
+  fin-cmp : (w : Bool) (o : StepKind) (c : Bool) (x y : Rk) (R : Regs) (h : Hist) → finish4 Γ (kcmp w o c x y) R h ≡ cmpS w o c (rk x R) (rk y R) h
   unfolding finish4
   fin-cmp true o c x y R h = refl
   fin-cmp false o c x y R h = refl
 
-  module _ (o : Kind) (c w : Bool) (A B : Hist → Taken Value) (s : St) (na : Γ .active ≤ s .free) where
+  module _ (o : StepKind) (c w : Bool) (A B : Hist → Taken Value) (s : St) (na : Γ .active ≤ s .free) where
     abbrev Dcmp : Regs → Hist → Taken (List Value)
     Dcmp R h = listOf (two A B (cmpS w o c) h)
 

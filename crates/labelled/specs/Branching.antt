@@ -4,10 +4,10 @@ use mathlib.Core.Bool.{Bool, true, false, not, Bool·not-not}
 use mathlib.Core.Path.{_≡_, refl, ap, sym, _∙_}
 use mathlib.Core.Option.{Option, some, none}
 use Rattle.constants.specs.Entry.{Constant, nil as knil, truth as ktruth, number as knumber, text as ktext}
-use Rattle.model.specs.Values.{Value, truth, valueOf, is-true, Kind, Taken, taken}
+use Rattle.model.specs.Values.{Value, truth, valueOf, is-true, StepKind, Taken, taken}
 use Rattle.model.specs.Running.{same as agrees}
 use Rattle.labelled.specs.Code.{Rk, Ex, val, cp, glob, idx, ari, neg, len, notx, cat, vfst, test, tset, cmp, lbl, setw, pl, br}
-use Rattle.labelled.specs.Machine.{Hist, Regs, Setting, Out, at, exit, eval, compared}
+use Rattle.labelled.specs.Machine.{Hist, Regs, Setting, Outcome, at, exit, eval, compared}
 use Rattle.labelled.specs.Emission.{St, push, emitJump, toHere}
 use Rattle.labelled.specs.Discharge.{K4, kc, kr, kx, kj, Des4, Par4, lab, freed, d2r, isCmp}
 use Rattle.labelled.specs.Conditions.{onLoad, onX, isBool, goCon, goJump, goIf, notK, notS, codeNot}
@@ -42,7 +42,7 @@ agrees-assoc false false true = refl
 agrees-assoc false false false = refl
 
 -- after goiftrue (c false) or goiffalse (c true), with the jumps in list m
-pub data Went (c : Bool) (m : ℕ) (p : ℕ) (o : Out) (n : ℕ) (R : Regs) (a : Taken Value) : Type 0 where
+pub data Went (c : Bool) (m : ℕ) (p : ℕ) (o : Outcome) (n : ℕ) (R : Regs) (a : Taken Value) : Type 0 where
   through : (R′ : Regs) (v : Value) (h : Hist) → o ≡ at p R′ h → Agree n R R′ → agrees (is-true v) c ≡ false → taken v h ≡ a → Went c m p o n R a
   gone : (b : Option ℕ) (R′ : Regs) (v : Value) (h : Hist) → o ≡ exit m b R′ h → Agree n R R′ → is-true v ≡ c → carried b R′ c ≡ v → taken v h ≡ a → Went c m p o n R a
 
@@ -138,7 +138,7 @@ module _ (Γ : Setting) where
       go false e = through R′ (truth (not (is-true (R′ r)))) h (push-at Γ (br (test r (not c)) (lbl m)) s R′ h m0 q ∙ rw (e, size-push Γ (br (test r (not c)) (lbl m)) s) refl) ag
           (not-agrees (is-true (R′ r)) c ∙ e) w
 
-  cmp-went : (c : Bool) (o : Kind) (d : Bool) (x y : Rk) (m n : ℕ) (s : St) (R R′ : Regs) (h h′ : Hist) (a : Taken Value) → (m ≡ 0 → ⊥) → C Γ s ≡ at (Z s) R′ h → Agree n R R′ → h′ ≡ compared Γ o x y R′ h .steps →
+  cmp-went : (c : Bool) (o : StepKind) (d : Bool) (x y : Rk) (m n : ℕ) (s : St) (R R′ : Regs) (h h′ : Hist) (a : Taken Value) → (m ≡ 0 → ⊥) → C Γ s ≡ at (Z s) R′ h → Agree n R R′ → h′ ≡ compared Γ o x y R′ h .steps →
       taken (truth (agrees (Γ .world .holds h′) d)) h′ ≡ a → Went c m (Z (push (br (cmp o (agrees d c) x y) (lbl m)) s)) (C Γ (push (br (cmp o (agrees d c) x y) (lbl m)) s)) n R a
   cmp-went c o d x y m n s R R′ h h′ a m0 q ag eh w = go (agrees (Γ .world .holds h′) (agrees d c)) refl
     where

@@ -9,7 +9,7 @@ use native.Mathlib.Omega.{arith as nat}
 use Rattle.constants.specs.Entry.{Constant, text as ktext}
 use Rattle.model.specs.Values.{Value, text, valueOf, index-read, Taken, taken, ask, ask-many}
 use Rattle.labelled.specs.Code.{val, CT, cfix, cva, cct, setw, selfw, pl, cbase}
-use Rattle.labelled.specs.Machine.{Hist, Regs, Setting, then, firstOf, listOf, upd, upd-same, upd-other, rk, span, Out, at, exit, eval, evalC}
+use Rattle.labelled.specs.Machine.{Hist, Regs, Setting, then, firstOf, listOf, upd, upd-same, upd-other, rk, span, Outcome, at, exit, eval, evalC}
 use Rattle.labelled.specs.Emission.{St, setFree, addK, flush, push}
 use Rattle.labelled.specs.Discharge.{K, kd, kl, kg, ki, kcl, kva, Desc, Pair, RkS, RgS, fresh, dv, freed, nextreg, asRk, late}
 use Rattle.labelled.specs.Outcomes.{size-push}
@@ -51,7 +51,7 @@ module _ (Γ : Setting) where
   one-first (kcl t) R h z = absurd (true≢false z)
   one-first kva R h z = absurd (true≢false z)
 
-  alone : (e : Desc) (p : ℕ) (o : Out) (n : ℕ) (R : Regs) (a : Taken (List Value)) → isOpen (e .kind) ≡ false → Res Γ e p o n R a → a ≡ listOf (firstOf a)
+  alone : (e : Desc) (p : ℕ) (o : Outcome) (n : ℕ) (R : Regs) (a : Taken (List Value)) → isOpen (e .kind) ≡ false → Res Γ e p o n R a → a ≡ listOf (firstOf a)
   alone e p o n R a z (fellL R′ h q ag w) = rw w at (one-first (e .kind) R′ h z)
   alone e p o n R a z (leftL c b R′ v h y q ag t u w) = ap (λ k. k) (sym w ∙ ap (λ k. listOf (firstOf k)) w)
 

@@ -8,7 +8,7 @@ use mathlib.Core.Path.{_≡_, refl}
 use lib.Dec.{eqb}
 use borrow.Author.Tests.{eqb-true, eqb-false, eq-eqb, ne-eqb}
 use Rattle.folding.specs.declared.Arith.{Arith}
-use Rattle.model.specs.Values.{Value, Kind}
+use Rattle.model.specs.Values.{Value, StepKind}
 
 -- tests on numbers, shut
 unfoldable pub same : ℕ → ℕ → Bool
@@ -65,7 +65,7 @@ pub data Ctrl : Type 0 where
   test : ℕ → Bool → Ctrl
   tset : ℕ → Bool → Ctrl
   tseta : ℕ → ℕ → Bool → Ctrl
-  cmp : Kind → Bool → Rk → Rk → Ctrl
+  cmp : StepKind → Bool → Rk → Rk → Ctrl
 
 -- where a jump leads: to a word, or with all others of its label
 pub data Tgt : Type 0 where

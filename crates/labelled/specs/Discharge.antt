@@ -5,7 +5,7 @@ use mathlib.Core.Bool.{Bool, true, false}
 use mathlib.Core.List.{List, _∷_}
 use mathlib.Core.Option.{some, none}
 use Rattle.constants.specs.Entry.{Constant, nil, truth, number, text}
-use Rattle.model.specs.Values.{Kind, valueOf, truth as vtruth}
+use Rattle.model.specs.Values.{StepKind, valueOf, truth as vtruth}
 use Rattle.labelled.specs.Code.{same, Rk, reg, con, Ex, val, cp, glob, idx, vfst, CT, cbase, cmp, lbl, setw, lbs, mark, callw, pl, br, Code, size, Act, keep, land, re, edit}
 use Rattle.labelled.specs.Machine.{pick}
 use Rattle.labelled.specs.Table.{roomy, isNear}
@@ -18,7 +18,7 @@ pub data K4 : Type 0 where
   kc : Constant → K4
   kr : Bool → ℕ → K4
   kx : Ex → K4
-  kj : Kind → Bool → Rk → Rk → K4
+  kj : StepKind → Bool → Rk → Rk → K4
 
 -- or a local, a global, an index read (with the registers taken before it), a call, a vararg
 pub data K : Type 0 where

@@ -8,7 +8,7 @@ use native.Mathlib.Omega.{arith as nat}
 use Rattle.model.specs.Values.{is-true}
 use Rattle.model.specs.Running.{same as agrees}
 use Rattle.labelled.specs.Code.{same, same-ne, same-true, cfix, cva, cct, Ctrl, always, test, tset, tseta, cmp, to, lbl, setw, lbs, mark, nilw, callw, selfw, Instr, pl, br, cwidth, width, Code, size, Act, keep, land, re, setreg, edBr, ed1, edit}
-use Rattle.labelled.specs.Machine.{Hist, Regs, Setting, pick, upd, wr, Out, at, exit, stuck, postA, post, Past, choose, branch, perform, stepAt, step, exec}
+use Rattle.labelled.specs.Machine.{Hist, Regs, Setting, pick, upd, wr, Outcome, at, exit, stuck, postA, post, Past, choose, branch, perform, stepAt, step, exec}
 
 -- ---- edits keep sizes
 
@@ -79,7 +79,7 @@ module _ (Γ : Setting) where
   branch-set false true r b c vt n R h e f = rw (← f) refl
   branch-set false false r b c vt n R h e f = rw (← f) refl
 
-  post-choose : (g : ℕ → Act) (k : Bool) (a b : Out) → post g (choose Γ k a b) ≡ choose Γ k (post g a) (post g b)
+  post-choose : (g : ℕ → Act) (k : Bool) (a b : Outcome) → post g (choose Γ k a b) ≡ choose Γ k (post g a) (post g b)
   post-choose g true a b = refl
   post-choose g false a b = refl
 
@@ -130,14 +130,14 @@ module _ (Γ : Setting) where
   step-at g true n (br (cmp o c x y) (to q)) p R h = rw post-choose refl
   step-at g true n (br c (lbl ℓ)) p R h = branch-ed g (g ℓ) c ℓ n R h refl
 
-  step-ed : (g : ℕ → Act) (n : ℕ) (i : Instr) (o : Out) → ((ℓ : ℕ) → Past (suc n) (g ℓ)) →
+  step-ed : (g : ℕ → Act) (n : ℕ) (i : Instr) (o : Outcome) → ((ℓ : ℕ) → Past (suc n) (g ℓ)) →
       step Γ n (ed1 g i) (post g o) ≡ post g (step Γ n i o)
   step-ed g n i (at p R h) l = step-at g (same p n) n i p R h
   step-ed g n i (exit ℓ b R h) l = pass-post n (ed1 g i) (g ℓ) ℓ b R h (l ℓ)
   step-ed g n i stuck l = refl
 
   -- a mark is passed over
-  pub step-mark : (n : ℕ) (o : Out) → step Γ n (pl mark) o ≡ o
+  pub step-mark : (n : ℕ) (o : Outcome) → step Γ n (pl mark) o ≡ o
   step-mark n (at p R h) = go (same p n) refl
     where
       go : (t : Bool) → same p n ≡ t → stepAt Γ t n (pl mark) p R h ≡ at p R h

@@ -9,7 +9,7 @@ use native.Mathlib.Omega.{arith as nat}
 use Rattle.constants.specs.Entry.{nil as knil}
 use Rattle.model.specs.Values.{Value, truth}
 use Rattle.labelled.specs.Code.{same, same-ne, same-refl, Ctrl, always, test, tset, tseta, cmp, to, lbl, setw, lbs, mark, nilw, callw, selfw, Instr, pl, br, Code, size, Act, keep, land, re, edBr, edit}
-use Rattle.labelled.specs.Machine.{Hist, Regs, Setting, upd, upd-other, Out, at, exit, stuck, post, Past, perform, exec}
+use Rattle.labelled.specs.Machine.{Hist, Regs, Setting, upd, upd-other, Outcome, at, exit, stuck, post, Past, perform, exec}
 use Rattle.labelled.specs.Edits.{size-edit, past-mono, step-mark, exec-edit}
 use Rattle.labelled.specs.Emission.{St, one, here, flush, push, emitJump, relabel, strip, hit, hereIf, toHere}
 use Rattle.labelled.specs.Discharge.{kc, Des4, lab}
@@ -30,24 +30,24 @@ abbrev pub carried : Option ℕ → Regs → Bool → Value
 carried none R c = truth c
 carried (some b) R c = R b
 
-abbrev pub isAt : ℕ → Out → Bool
+abbrev pub isAt : ℕ → Outcome → Bool
 isAt n (at p R h) = same p n
 isAt n (exit ℓ b R h) = false
 isAt n stuck = false
 
-abbrev pub tag : Bool → Out → Out
+abbrev pub tag : Bool → Outcome → Outcome
 tag true o = o
 tag false (at p R h) = stuck
 tag false (exit ℓ b R h) = exit ℓ b R h
 tag false stuck = stuck
 
-tag-at : (t : Bool) (o : Out) (p : ℕ) (R : Regs) (h : Hist) → tag t o ≡ at p R h → (t ≡ true) × (o ≡ at p R h)
+tag-at : (t : Bool) (o : Outcome) (p : ℕ) (R : Regs) (h : Hist) → tag t o ≡ at p R h → (t ≡ true) × (o ≡ at p R h)
 tag-at true o p R h e = (refl, e)
 tag-at false (at q S k) p R h e = absurd (let z : _≡_ {A = ℕ} 0 1 = cc in omega nat)
 tag-at false (exit ℓ b S k) p R h e = absurd (let z : _≡_ {A = ℕ} 0 1 = cc in omega nat)
 tag-at false stuck p R h e = absurd (let z : _≡_ {A = ℕ} 0 1 = cc in omega nat)
 
-tag-exit : (t : Bool) (o : Out) (ℓ : ℕ) (b : Option ℕ) (R : Regs) (h : Hist) → tag t o ≡ exit ℓ b R h → o ≡ exit ℓ b R h
+tag-exit : (t : Bool) (o : Outcome) (ℓ : ℕ) (b : Option ℕ) (R : Regs) (h : Hist) → tag t o ≡ exit ℓ b R h → o ≡ exit ℓ b R h
 tag-exit true o ℓ b R h e = e
 tag-exit false (at q S k) ℓ b R h e = absurd (let z : _≡_ {A = ℕ} 0 1 = cc in omega nat)
 tag-exit false (exit m d S k) ℓ b R h e = e
@@ -57,10 +57,10 @@ tag-out : (t : Bool) (ℓ : ℕ) (b : Option ℕ) (R : Regs) (h : Hist) → tag 
 tag-out true ℓ b R h = refl
 tag-out false ℓ b R h = refl
 
-pub isAt-of : (n : ℕ) (o : Out) (R : Regs) (h : Hist) → o ≡ at n R h → isAt n o ≡ true
+pub isAt-of : (n : ℕ) (o : Outcome) (R : Regs) (h : Hist) → o ≡ at n R h → isAt n o ≡ true
 isAt-of n o R h e = rw e (same-refl n)
 
-at-post : (g : ℕ → Act) (n : ℕ) (o : Out) → isAt n o ≡ true → isAt n (post g o) ≡ true
+at-post : (g : ℕ → Act) (n : ℕ) (o : Outcome) → isAt n o ≡ true → isAt n (post g o) ≡ true
 at-post g n (at p R h) w = w
 at-post g n (exit ℓ b R h) w = absurd (let z : _≡_ {A = ℕ} 0 1 = cc in omega nat)
 at-post g n stuck w = w
@@ -111,7 +111,7 @@ unfolding flush
 flush-keeps s = (refl, refl)
 
 module _ (Γ : Setting) where
-  abbrev pub tight : Code → Out → Out
+  abbrev pub tight : Code → Outcome → Outcome
   tight [] o = o
   tight (pl (setw a x) ∷ c) o = o
   tight (pl (lbs a x) ∷ c) o = o
@@ -122,10 +122,10 @@ module _ (Γ : Setting) where
   tight (br x y ∷ c) o = o
 
   -- the outcome, where a last LoadNil has been carried out by whoever falls off the end
-  unfoldable pub CC : Code → Out
+  unfoldable pub CC : Code → Outcome
   CC c = tight c (curC Γ c)
 
-  abbrev pub C : St → Out
+  abbrev pub C : St → Outcome
   C s = CC (s .code)
 
   -- the last word is no `LoadNil`, or the run came to it
@@ -139,7 +139,7 @@ module _ (Γ : Setting) where
   Firm (pl (selfw a x y) ∷ c) = Unit {0}
   Firm (br x y ∷ c) = Unit {0}
 
-  tight-firm : (c : Code) (o : Out) → Firm c → tight c o ≡ o
+  tight-firm : (c : Code) (o : Outcome) → Firm c → tight c o ≡ o
   tight-firm [] o w = refl
   tight-firm (pl (setw a x) ∷ c) o w = refl
   tight-firm (pl (lbs a x) ∷ c) o w = refl
@@ -153,7 +153,7 @@ module _ (Γ : Setting) where
   unfolding CC
   firm-C s w = tight-firm (s .code) (cur Γ s) w
 
-  tight-at : (c : Code) (o : Out) (p : ℕ) (R : Regs) (h : Hist) → tight c o ≡ at p R h → Firm c × (o ≡ at p R h)
+  tight-at : (c : Code) (o : Outcome) (p : ℕ) (R : Regs) (h : Hist) → tight c o ≡ at p R h → Firm c × (o ≡ at p R h)
   tight-at [] o p R h e = (tt, e)
   tight-at (pl (setw a x) ∷ c) o p R h e = (tt, e)
   tight-at (pl (lbs a x) ∷ c) o p R h e = (tt, e)
@@ -163,7 +163,7 @@ module _ (Γ : Setting) where
   tight-at (pl (selfw a x y) ∷ c) o p R h e = (tt, e)
   tight-at (br x y ∷ c) o p R h e = (tt, e)
 
-  tight-exit : (c : Code) (o : Out) (ℓ : ℕ) (b : Option ℕ) (R : Regs) (h : Hist) → tight c o ≡ exit ℓ b R h → o ≡ exit ℓ b R h
+  tight-exit : (c : Code) (o : Outcome) (ℓ : ℕ) (b : Option ℕ) (R : Regs) (h : Hist) → tight c o ≡ exit ℓ b R h → o ≡ exit ℓ b R h
   tight-exit [] o ℓ b R h e = e
   tight-exit (pl (setw a x) ∷ c) o ℓ b R h e = e
   tight-exit (pl (lbs a x) ∷ c) o ℓ b R h e = e

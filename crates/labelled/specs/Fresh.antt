@@ -21,7 +21,7 @@ use Rattle.ast.specs.declared.One.the-variants as one-of
 use Rattle.ast.specs.declared.Many.{Many}
 use Rattle.ast.specs.declared.Many.the-variants as many
 use Rattle.chunk.specs.Ast.{Expr, leaf as leaf-node, one as one-node, two as two-node, many as many-node, Exprs, none as no-more, more}
-use Rattle.model.specs.Values.{valueOf, is-true, Kind, folds, truth, number, text}
+use Rattle.model.specs.Values.{valueOf, is-true, StepKind, folds, truth, number, text}
 use Rattle.model.specs.Expressions.{search-local}
 use Rattle.model.specs.Running.{same as agrees}
 use Rattle.labelled.specs.Code.{same, same-ne, Ex, val, cp, glob, idx, ari, neg, len, notx, cat, vfst, Ctrl, always, test, tset, tseta, cmp, to, lbl, setw, lbs, mark, nilw, callw, selfw, Instr, pl, br, Code, size, Act, keep, land, re, edBr, edit}
@@ -419,7 +419,7 @@ module _ (n : ℕ) (pos : 1 ≤ n) where
   ari-new (Folded z) a f m x p o = fresh-new _ f (p .st) (o .on)
   ari-new Kept a f m x p o = word-new _ f (rightFirst m x p .st) (right-on m x p o)
 
-  pub cmp-new : (k : Kind) (c w : Bool) (f : ℕ) (m : Option ℕ) (x : RkS) (p : Par4) → New4 n p → New n (cmpJoin k c w f m x p)
+  pub cmp-new : (k : StepKind) (c w : Bool) (f : ℕ) (m : Option ℕ) (x : RkS) (p : Par4) → New4 n p → New n (cmpJoin k c w f m x p)
   unfolding cmpJoin
   cmp-new k c w f m x p o = word-new _ f (leftFirst m x p .st) (left-on m x p o)
 

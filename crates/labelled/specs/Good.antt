@@ -7,7 +7,7 @@ use mathlib.Core.Option.{Option}
 use native.Mathlib.Omega.{arith as nat}
 use Rattle.model.specs.Values.{Value, text, is-true, global-read, index-read, Taken, taken, ask}
 use Rattle.labelled.specs.Code.{callw, pl, cbase}
-use Rattle.labelled.specs.Machine.{Hist, Regs, Setting, firstOf, listOf, rk, Out, at, exit, eval, evalC}
+use Rattle.labelled.specs.Machine.{Hist, Regs, Setting, firstOf, listOf, rk, Outcome, at, exit, eval, evalC}
 use Rattle.labelled.specs.Emission.{St, setFree, flush, push}
 use Rattle.labelled.specs.Discharge.{K, kd, kl, kg, ki, kcl, kva, Desc, Pair, Par4, fresh, lift4, dvK, dvS, dv}
 use Rattle.labelled.specs.Outcomes.{curC}
@@ -52,7 +52,7 @@ module _ (Γ : Setting) where
   finishL kva R h = taken (Γ .varargs) h
 
   -- as Res4, of a descriptor that may still be open: such a one is never left by a jump
-  pub data Res (e : Desc) (p : ℕ) (o : Out) (n : ℕ) (R : Regs) (a : Taken (List Value)) : Type 0 where
+  pub data Res (e : Desc) (p : ℕ) (o : Outcome) (n : ℕ) (R : Regs) (a : Taken (List Value)) : Type 0 where
     fellL : (R′ : Regs) (h : Hist) → o ≡ at p R′ h → Agree n R R′ → finishL (e .kind) R′ h ≡ a → Res e p o n R a
     leftL : (c : Bool) (b : Option ℕ) (R′ : Regs) (v : Value) (h : Hist) → isOpen (e .kind) ≡ false → o ≡ exit (labD c e) b R′ h → Agree n R R′ → is-true v ≡ c → carried b R′ c ≡ v → taken (v ∷ []) h ≡ a → Res e p o n R a
 
@@ -167,7 +167,7 @@ module _ (Γ : Setting) where
   pub flush-is : (s : St) (R : Regs) (h : Hist) → C Γ s ≡ at (Z s) R h → C Γ (flush s) ≡ at (Z (flush s)) R h
   flush-is s R h q = flush-at Γ s R h q
 
-  pub res-monoL : (n m : ℕ) (e : Desc) (z : ℕ) (o : Out) (R R′ : Regs) (a : Taken (List Value)) → Agree n R R′ → Res e z o n R′ a → Res e z o n R a
+  pub res-monoL : (n m : ℕ) (e : Desc) (z : ℕ) (o : Outcome) (R R′ : Regs) (a : Taken (List Value)) → Agree n R R′ → Res e z o n R′ a → Res e z o n R a
   res-monoL n m e z o R R′ a ag (fellL R″ h q ag′ w) = fellL R″ h q (agree-trans n n R R′ R″ (omega nat) ag ag′) w
   res-monoL n m e z o R R′ a ag (leftL d b R″ v h y q ag′ x w u) = leftL d b R″ v h y q (agree-trans n n R R′ R″ (omega nat) ag ag′) x w u
 

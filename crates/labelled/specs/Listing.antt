@@ -23,7 +23,7 @@ use Rattle.ast.specs.declared.One.the-variants as one-of
 use Rattle.ast.specs.declared.Many.{Many}
 use Rattle.ast.specs.declared.Many.the-variants as many
 use Rattle.chunk.specs.Ast.{Expr, leaf as leaf-node, one as one-node, two as two-node, many as many-node, Exprs, none as no-more, more}
-use Rattle.model.specs.Values.{Value, number, valueOf, is-true, Kind, Taken, folds}
+use Rattle.model.specs.Values.{Value, number, valueOf, is-true, StepKind, Taken, folds}
 use Rattle.model.specs.Expressions.{search-local}
 use Rattle.model.specs.Running.{same as agrees}
 use Rattle.labelled.specs.Code.{Rk, con, Ex, val, cp, glob, idx, ari, neg, len, notx, cat, vfst, cfix, cva, CT, cct, cbase, test, tset, cmp, lbl, setw, selfw, pl, br}
@@ -163,7 +163,7 @@ waiting (some n) p k e = ap (λ o. con (number (orZero o))) e
     orZero none = 0
     orZero (some i) = i
 
-cmp-ok : (w : Bool) (o : Kind) (c : Bool) (t : List Constant) (x y : Rk) → OkRk t x → OkRk t y → OkK4 t (kcmp w o c x y)
+cmp-ok : (w : Bool) (o : StepKind) (c : Bool) (t : List Constant) (x y : Rk) → OkRk t x → OkRk t y → OkK4 t (kcmp w o c x y)
 cmp-ok true o c t x y a b = (b, a)
 cmp-ok false o c t x y a b = (a, b)
 
@@ -177,7 +177,7 @@ unfolding ariJoin
 ari-makes (Folded z) o f n x s p l m = fresh-makes _ f s (p .st) (m .way) tt
 ari-makes Kept o f n x s p l m = let r = right-first n x p l (m .kind-ok) in word-makes _ f s (rightFirst n x p .st) (then-to s (p .st) _ (m .way) (r .way)) (r .lft-ok, r .rgt-ok)
 
-cmp-makes : (o : Kind) (c w : Bool) (f : ℕ) (n : Option ℕ) (x : RkS) (s : St) (p : Par4) → OkLeft n (p .st .tab) (x .rkv) → ((k : ℕ) → n ≡ some k → x .rkv ≡ con (number k)) → Makes4 s p → Makes s (cmpJoin o c w f n x p)
+cmp-makes : (o : StepKind) (c w : Bool) (f : ℕ) (n : Option ℕ) (x : RkS) (s : St) (p : Par4) → OkLeft n (p .st .tab) (x .rkv) → ((k : ℕ) → n ≡ some k → x .rkv ≡ con (number k)) → Makes4 s p → Makes s (cmpJoin o c w f n x p)
 unfolding cmpJoin
 cmp-makes o c w f n x s p l v m = let r = left-first n x p l v (m .kind-ok) in
     word-makes _ f s (leftFirst n x p .st) (then-to s (p .st) _ (m .way) (r .way)) (cmp-ok w o c (leftFirst n x p .st .tab) (leftFirst n x p .lft) (leftFirst n x p .rgt) (r .lft-ok) (r .rgt-ok))

@@ -9,10 +9,10 @@ use lib.Dec.{leb}
 use borrow.Author.Tests.{leb-true, leb-false}
 use native.Mathlib.Omega.{arith as nat}
 use Rattle.constants.specs.Entry.{Constant, nil as knil, truth as ktruth, number as knumber, text as ktext}
-use Rattle.model.specs.Values.{Value, nil, truth, number, text, valueOf, is-true, Kind, Taken, taken, ask-truth}
+use Rattle.model.specs.Values.{Value, nil, truth, number, text, valueOf, is-true, StepKind, Taken, taken, ask-truth}
 use Rattle.model.specs.Running.{same as agrees}
 use Rattle.labelled.specs.Code.{same, same-true, same-false, same-refl, val, cp, cmp, lbl, setw, lbs, mark, nilw, callw, selfw, Instr, pl, br, width, Code, size, Act}
-use Rattle.labelled.specs.Machine.{Hist, Regs, Setting, then, pick, upd, upd-same, upd-other, rk, nils, Out, at, exit, stuck, post, eval, perform, stepAt, step, exec}
+use Rattle.labelled.specs.Machine.{Hist, Regs, Setting, then, pick, upd, upd-same, upd-other, rk, nils, Outcome, at, exit, stuck, post, eval, perform, stepAt, step, exec}
 use Rattle.labelled.specs.Emission.{St, withCode, addK, push, inRange, longer, extend, nilTop}
 use Rattle.labelled.specs.Discharge.{K4, kc, kr, kx, kj, Des4, lab, loadCon, d2r, isCmp}
 use Rattle.labelled.specs.Outcomes.{Named, curC, size-push}
@@ -27,7 +27,7 @@ nils-in (suc k) a R r l m = go (same r (suc k + a)) refl (λ z. nils-in k a R r 
     go true e f = rw (same-true r (suc k + a) e) (upd-same (suc k + a) nil (nils k a R))
     go false e f = let ne : r ≢ suc k + a = same-false r (suc k + a) e in upd-other (suc k + a) nil (nils k a R) r ne ∙ f (omega nat)
 
-abbrev hist-of : Out → Hist
+abbrev hist-of : Outcome → Hist
 hist-of (at p R h) = h
 hist-of (exit ℓ b R h) = h
 hist-of stuck = []
@@ -75,7 +75,7 @@ d2r-nxt k t r s = d2r-keeps k t r s .1
 
 module _ (Γ : Setting) where
   -- a comparison's answer, as a value
-  abbrev pub cmpA : Kind → Bool → Value → Value → Hist → Taken Value
+  abbrev pub cmpA : StepKind → Bool → Value → Value → Hist → Taken Value
   cmpA o c v u h = then (ask-truth (Γ .world) o (v ∷ u ∷ []) h) λ t h₁. taken (truth (agrees t c)) h₁
 
   -- what a discharged descriptor is worth where the run has fallen to the end
@@ -86,7 +86,7 @@ module _ (Γ : Setting) where
   finish4 (kj o c x y) R h = cmpA o c (rk x R) (rk y R) h
 
   -- the run falls to the end, and the descriptor is worth the answer; or it leaves by the list of the answer's truth, with the answer in a register or, where it is true or false, in none
-  pub data Res4 (e : Des4) (p : ℕ) (o : Out) (n : ℕ) (R : Regs) (a : Taken Value) : Type 0 where
+  pub data Res4 (e : Des4) (p : ℕ) (o : Outcome) (n : ℕ) (R : Regs) (a : Taken Value) : Type 0 where
     fell : (R′ : Regs) (h : Hist) → o ≡ at p R′ h → Agree n R R′ → finish4 (e .k4) R′ h ≡ a → Res4 e p o n R a
     left : (c : Bool) (b : Option ℕ) (R′ : Regs) (v : Value) (h : Hist) → o ≡ exit (lab c e) b R′ h → Agree n R R′ → is-true v ≡ c → carried b R′ c ≡ v → taken v h ≡ a → Res4 e p o n R a
 
@@ -121,12 +121,12 @@ module _ (Γ : Setting) where
     pub was : exec Γ c ≡ at (size c) rs h
     pub now : R ≡ nils k a rs
 
-  abbrev regs-of : Out → Regs
+  abbrev regs-of : Outcome → Regs
   regs-of (at p R h) = R
   regs-of (exit ℓ b R h) = R
   regs-of stuck = Γ .start
 
-  nil-was : (a k : ℕ) (c : Code) (o : Out) (R : Regs) (h : Hist) (nx : ℕ) → exec Γ c ≡ o → isAt (size c) o ≡ true → curC Γ (pl (nilw a k) ∷ c) ≡ at nx R h → Was a k c R h
+  nil-was : (a k : ℕ) (c : Code) (o : Outcome) (R : Regs) (h : Hist) (nx : ℕ) → exec Γ c ≡ o → isAt (size c) o ≡ true → curC Γ (pl (nilw a k) ∷ c) ≡ at nx R h → Was a k c R h
   nil-was a k c (exit ℓ b S g) R h nx eo w e = absurd (true≢false (sym w))
   nil-was a k c stuck R h nx eo w e = absurd (true≢false (sym w))
   nil-was a k c (at p S g) R h nx eo w e = let q : exec Γ c ≡ at (size c) S g = eo ∙ ap (λ z. at z S g) (same-true p (size c) w) in
@@ -188,7 +188,7 @@ module _ (Γ : Setting) where
   at-not-exit g true n a k p S u ℓ b R h e = let z : _≡_ {A = ℕ} 0 1 = cc in omega nat
   at-not-exit g false n a k p S u ℓ b R h e = let z : _≡_ {A = ℕ} 0 1 = cc in omega nat
 
-  nil-same : (g : ℕ → Act) (n a k k₂ : ℕ) (o : Out) (ℓ : ℕ) (b : Option ℕ) (R : Regs) (h : Hist) → post g (step Γ n (pl (nilw a k)) o) ≡ exit ℓ b R h → post g (step Γ n (pl (nilw a k₂)) o) ≡ exit ℓ b R h
+  nil-same : (g : ℕ → Act) (n a k k₂ : ℕ) (o : Outcome) (ℓ : ℕ) (b : Option ℕ) (R : Regs) (h : Hist) → post g (step Γ n (pl (nilw a k)) o) ≡ exit ℓ b R h → post g (step Γ n (pl (nilw a k₂)) o) ≡ exit ℓ b R h
   nil-same g n a k k₂ (at p S u) ℓ b R h e = absurd (at-not-exit g (same p n) n a k p S u ℓ b R h e)
   nil-same g n a k k₂ (exit m d S u) ℓ b R h e = e
   nil-same g n a k k₂ stuck ℓ b R h e = e

@@ -9,7 +9,7 @@ use native.Mathlib.Omega.{arith as nat}
 use Rattle.constants.specs.Entry.{sameBytes}
 use Rattle.cursor.specs.Fields.{bytesOf}
 use Rattle.cursor.specs.declared.Text.{Text}
-use Rattle.model.specs.Values.{later, named, Value, nil, World}
+use Rattle.model.specs.Values.{last-wins, named, Value, nil, World}
 use Rattle.model.specs.Expressions.{search-local}
 use Rattle.model.specs.Reading.{local-named}
 use Rattle.labelled.specs.Machine.{Setting}
@@ -29,7 +29,7 @@ module _ (chunk name : List ℕ) where
   found-here true r v vs = (0, (omega nat, (omega nat, refl)))
   found-here false r v vs = refl
 
-  found-later : (t : Text) (v : Value) (vs : List Value) (r : ℕ) (i : Option ℕ) (o : Option Value) → Found (suc r) vs i o → Found r (v ∷ vs) (later i (named chunk name t r)) (later o (named chunk name t v))
+  found-later : (t : Text) (v : Value) (vs : List Value) (r : ℕ) (i : Option ℕ) (o : Option Value) → Found (suc r) vs i o → Found r (v ∷ vs) (last-wins i (named chunk name t r)) (last-wins o (named chunk name t v))
   found-later t v vs r none o f = rw f (found-here (sameBytes (bytesOf chunk t) name) r v vs)
   found-later t v vs r (some i) o (j, (e, (l, q))) = rw q (suc j, (omega nat, (omega nat, refl)))
 

@@ -5,7 +5,7 @@ use mathlib.Core.Bool.{Bool, true, false, not}
 use mathlib.Core.Path.{_≡_, refl}
 use mathlib.Core.List.{List, [], _∷_, _++_}
 use mathlib.Core.Option.{Option, some, none}
-use Rattle.model.specs.Values.{Value, nil, truth, text, is-true, first, Kind, global-read, index-read, length-of, concatenation, Outward, World, Taken, taken, ask, ask-many, ask-truth, compute, negation}
+use Rattle.model.specs.Values.{Value, nil, truth, text, is-true, first, StepKind, global-read, index-read, length-of, concatenation, Outward, World, Taken, taken, ask, ask-many, ask-truth, compute, negation}
 use Rattle.model.specs.Running.{same as agrees}
 use Rattle.labelled.specs.Code.{same, same-ne, same-refl, Rk, reg, con, Ex, val, cp, glob, idx, ari, neg, len, notx, cat, vfst, CT, cfix, cva, cct, Ctrl, always, test, tset, tseta, cmp, Tgt, to, lbl, PW, setw, lbs, mark, nilw, callw, selfw, Instr, pl, br, cbase, twidth, Code, size, Act, keep, land, re}
 
@@ -72,12 +72,12 @@ wr (some r) b R = pick (same r b) R (upd r (R b) R)
 
 -- ---- outcomes: at a word, at a pending jump (with the register of the value it keeps), or stuck
 
-pub data Out : Type 0 where
-  at : ℕ → Regs → Hist → Out
-  exit : ℕ → Option ℕ → Regs → Hist → Out
-  stuck : Out
+pub data Outcome : Type 0 where
+  at : ℕ → Regs → Hist → Outcome
+  exit : ℕ → Option ℕ → Regs → Hist → Outcome
+  stuck : Outcome
 
-abbrev pub postA : Act → ℕ → Option ℕ → Regs → Hist → Out
+abbrev pub postA : Act → ℕ → Option ℕ → Regs → Hist → Outcome
 postA keep ℓ b R h = exit ℓ b R h
 postA (land vt r dt) ℓ (some b) R h = at vt (wr r b R) h
 postA (land vt r dt) ℓ none R h = at dt R h
@@ -85,7 +85,7 @@ postA (re m true) ℓ b R h = exit m none R h
 postA (re m false) ℓ b R h = exit m b R h
 
 -- an edit, seen from the outcome
-abbrev pub post : (ℕ → Act) → Out → Out
+abbrev pub post : (ℕ → Act) → Outcome → Outcome
 post g (at p R h) = at p R h
 post g (exit ℓ b R h) = postA (g ℓ) ℓ b R h
 post g stuck = stuck
@@ -95,7 +95,7 @@ Past n keep = Unit {0}
 Past n (land vt r dt) = (n ≤ vt) × (n ≤ dt)
 Past n (re m b) = Unit {0}
 
-abbrev pub goto : Tgt → Option ℕ → Regs → Hist → Out
+abbrev pub goto : Tgt → Option ℕ → Regs → Hist → Outcome
 goto (to p) b R h = at p R h
 goto (lbl ℓ) b R h = exit ℓ b R h
 
@@ -155,14 +155,14 @@ module _ (Γ : Setting) where
 
   -- ---- jumps
 
-  abbrev pub choose : Bool → Out → Out → Out
+  abbrev pub choose : Bool → Outcome → Outcome → Outcome
   choose true a b = a
   choose false a b = b
 
-  abbrev pub compared : Kind → Rk → Rk → Regs → Hist → Taken Bool
+  abbrev pub compared : StepKind → Rk → Rk → Regs → Hist → Taken Bool
   compared o x y R h = ask-truth (Γ .world) o (rk x R ∷ rk y R ∷ []) h
 
-  abbrev pub branch : Ctrl → Tgt → ℕ → Regs → Hist → Out
+  abbrev pub branch : Ctrl → Tgt → ℕ → Regs → Hist → Outcome
   branch always t n R h = goto t none R h
   branch (test b c) t n R h = choose (agrees (is-true (R b)) c) (goto t none R h) (at (2 + n) R h)
   branch (tset b c) t n R h = choose (agrees (is-true (R b)) c) (goto t (some b) R h) (at (2 + n) R h)
@@ -171,19 +171,19 @@ module _ (Γ : Setting) where
 
   -- ---- the run
 
-  abbrev pub perform : Instr → ℕ → Regs → Hist → Out
+  abbrev pub perform : Instr → ℕ → Regs → Hist → Outcome
   perform (pl w) n R h = at (onto w n) (wrote w R h) (took w R h)
   perform (br c t) n R h = branch c t n R h
 
-  abbrev pub stepAt : Bool → ℕ → Instr → ℕ → Regs → Hist → Out
+  abbrev pub stepAt : Bool → ℕ → Instr → ℕ → Regs → Hist → Outcome
   stepAt true n i p R h = perform i n R h
   stepAt false n i p R h = at p R h
 
-  abbrev pub step : ℕ → Instr → Out → Out
+  abbrev pub step : ℕ → Instr → Outcome → Outcome
   step n i (at p R h) = stepAt (same p n) n i p R h
   step n i (exit ℓ b R h) = exit ℓ b R h
   step n i stuck = stuck
 
-  unfoldable pub exec : Code → Out
+  unfoldable pub exec : Code → Outcome
   exec [] = at 0 (Γ .start) []
   exec (i ∷ c) = step (size c) i (exec c)

@@ -19,7 +19,7 @@ use Rattle.ast.specs.declared.Leaf.the-variants as leaf
 use Rattle.ast.specs.declared.One.{One}
 use Rattle.ast.specs.declared.One.the-variants as one-of
 use Rattle.chunk.specs.Ast.{Expr, leaf as leaf-node, one as one-node, two as two-node, many as many-node, Exprs, none as no-more, more}
-use Rattle.model.specs.Values.{valueOf, is-true, Kind, folds}
+use Rattle.model.specs.Values.{valueOf, is-true, StepKind, folds}
 use Rattle.model.specs.Expressions.{search-local}
 use Rattle.model.specs.Running.{same as agrees}
 use Rattle.labelled.specs.Code.{same, Ex, val, cp, glob, idx, ari, neg, len, notx, cat, vfst, Ctrl, always, test, tset, tseta, cmp, to, lbl, setw, lbs, mark, nilw, callw, selfw, pl, br, Code, Act, keep, land, re, edBr, edit}
@@ -245,7 +245,7 @@ ari-quiet o (some w) (some u) f x b p q v e = go (folds o (some w) (some u)) e
     go Kept e = x-never _ v e
     go (Folded z) e = q w u refl refl
 
-cmp-never : (w : Bool) (k : Kind) (c : Bool) (f : ℕ) (n : Option ℕ) (x : RkS) (b : Code) (p : Par4) → Con b (cmpJoin k c w f n x p)
+cmp-never : (w : Bool) (k : StepKind) (c : Bool) (f : ℕ) (n : Option ℕ) (x : RkS) (b : Code) (p : Par4) → Con b (cmpJoin k c w f n x p)
 unfolding cmpJoin fresh
 cmp-never true k c f n x b p v e = absurd (let z : _≡_ {A = ℕ} 0 1 = cc in omega nat)
 cmp-never false k c f n x b p v e = absurd (let z : _≡_ {A = ℕ} 0 1 = cc in omega nat)

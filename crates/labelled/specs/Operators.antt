@@ -11,7 +11,7 @@ use Rattle.constants.specs.Entry.{Constant, nil, truth, number, text}
 use Rattle.ast.specs.declared.BinOp.the-variants as bin
 use Rattle.ast.specs.declared.Two.{Two}
 use Rattle.ast.specs.declared.Two.the-variants as two
-use Rattle.model.specs.Values.{Kind, equal, less, less-or-equal, folds, valueOf}
+use Rattle.model.specs.Values.{StepKind, equal, less, less-or-equal, folds, valueOf}
 use Rattle.labelled.specs.Code.{Rk, con, Ex, val, cp, glob, idx, ari, neg, len, notx, cat, vfst}
 use Rattle.labelled.specs.Table.{isNear}
 use Rattle.labelled.specs.Emission.{St, addK, flush, relabel, hit}
@@ -74,11 +74,11 @@ ariJoin (Folded z) o f n x p = fresh (kd (kc (number (z .bits)))) f (p .st)
 ariJoin Kept o f n x p = fresh (kd (kx (ari o (rightFirst n x p .lft) (rightFirst n x p .rgt)))) f (flush (rightFirst n x p .st))
 
 -- a > b and a >= b: the operands change places in the word
-abbrev pub kcmp : Bool → Kind → Bool → Rk → Rk → K4
+abbrev pub kcmp : Bool → StepKind → Bool → Rk → Rk → K4
 kcmp true o c x y = kj o c y x
 kcmp false o c x y = kj o c x y
 
-unfoldable pub cmpJoin : Kind → Bool → Bool → ℕ → Option ℕ → RkS → Par4 → Pair
+unfoldable pub cmpJoin : StepKind → Bool → Bool → ℕ → Option ℕ → RkS → Par4 → Pair
 cmpJoin o c swapped f n x p = fresh (kd (kcmp swapped o c (leftFirst n x p .lft) (leftFirst n x p .rgt))) f (flush (leftFirst n x p .st))
 
 -- negation, of a numeral folded; length
@@ -124,7 +124,7 @@ pub data Form : Type 0 where
   logical : Bool → Form
   joining : Form
   arithmetic : Arith → Form
-  comparing : Kind → Bool → Bool → Form
+  comparing : StepKind → Bool → Bool → Form
   indexing : Form
 
 abbrev pub formOf : Two → Form

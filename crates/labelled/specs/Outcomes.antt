@@ -9,13 +9,13 @@ use Rattle.model.specs.Values.{truth, is-true}
 use Rattle.model.specs.Running.{same as agrees}
 use Rattle.laws.specs.Truth.{or-false}
 use Rattle.labelled.specs.Code.{same, same-ne, same-true, same-false, same-refl, val, always, test, tset, tseta, cmp, Tgt, to, lbl, setw, lbs, Instr, pl, br, width, Code, size, Act, keep, land, re, edit}
-use Rattle.labelled.specs.Machine.{Hist, Regs, Setting, pick, upd, Out, at, exit, stuck, postA, post, Past, goto, choose, compared, perform, stepAt, step, exec}
+use Rattle.labelled.specs.Machine.{Hist, Regs, Setting, pick, upd, Outcome, at, exit, stuck, postA, post, Past, goto, choose, compared, perform, stepAt, step, exec}
 use Rattle.labelled.specs.Edits.{size-edit, step-mark, exec-edit}
 use Rattle.labelled.specs.Emission.{St, one, here, flush, push, emitJump, relabel, strip, hit1, hit}
 use Rattle.labelled.specs.Discharge.{lands, pairG, loadPair, landAll}
 
 -- an outcome that is no pending jump to here
-abbrev pub Off : Out → Type 0
+abbrev pub Off : Outcome → Type 0
 Off (at p R h) = Unit {0}
 Off (exit ℓ b R h) = ℓ ≡ 0 → ⊥
 Off stuck = Unit {0}
@@ -35,7 +35,7 @@ past-one n a x q ℓ = go (same ℓ a)
     go true = q
     go false = tt
 
-post-off : (x : Act) (o : Out) → Off o → post (one 0 x) o ≡ o
+post-off : (x : Act) (o : Outcome) → Off o → post (one 0 x) o ≡ o
 post-off x (at p R h) q = refl
 post-off x (exit ℓ b R h) q = rw (same-ne ℓ 0 q) refl
 post-off x stuck q = refl
@@ -45,13 +45,13 @@ off-land true p ℓ none R h e = tt
 off-land true p ℓ (some b) R h e = tt
 off-land false p ℓ b R h e = same-false ℓ 0 (sym e)
 
-off-post : (p : ℕ) (o : Out) → Off (post (one 0 (land p none p)) o)
+off-post : (p : ℕ) (o : Outcome) → Off (post (one 0 (land p none p)) o)
 off-post p (at q R h) = tt
 off-post p (exit ℓ b R h) = off-land (same ℓ 0) p ℓ b R h refl
 off-post p stuck = tt
 
 -- a relabelling or a stripping, then the jumps to here: the jumps to here, then the relabelling
-swap-post : (a : ℕ) (x y : Act) (o : Out) → (a ≡ 0 → ⊥) → ((ℓ : ℕ) (b : Option ℕ) (R : Regs) (h : Hist) → post (one 0 y) (postA x ℓ b R h) ≡ postA x ℓ b R h) →
+swap-post : (a : ℕ) (x y : Act) (o : Outcome) → (a ≡ 0 → ⊥) → ((ℓ : ℕ) (b : Option ℕ) (R : Regs) (h : Hist) → post (one 0 y) (postA x ℓ b R h) ≡ postA x ℓ b R h) →
     ((ℓ : ℕ) (b : Option ℕ) (R : Regs) (h : Hist) → post (one a x) (postA y ℓ b R h) ≡ postA y ℓ b R h) →
     post (one 0 y) (post (one a x) o) ≡ post (one a x) (post (one 0 y) o)
 swap-post a x y (at p R h) n q w = refl
@@ -65,7 +65,7 @@ swap-post a x y (exit ℓ b R h) n q w = go (same ℓ a) (same ℓ 0) refl refl
     go false false e f = simp (e, f)
 
 -- relabelling to here, then the jumps to here
-post-here : (a p : ℕ) (o : Out) → (a ≡ 0 → ⊥) → post (one 0 (land p none p)) (post (one a (re 0 false)) o) ≡ post (one a (land p none p)) (post (one 0 (land p none p)) o)
+post-here : (a p : ℕ) (o : Outcome) → (a ≡ 0 → ⊥) → post (one 0 (land p none p)) (post (one a (re 0 false)) o) ≡ post (one a (land p none p)) (post (one 0 (land p none p)) o)
 post-here a p (at q R h) n = refl
 post-here a p stuck n = refl
 post-here a p (exit ℓ b R h) n = go (same ℓ a) (same ℓ 0) b refl refl
@@ -79,7 +79,7 @@ post-here a p (exit ℓ b R h) n = go (same ℓ a) (same ℓ 0) b refl refl
     go false false b e f = simp (e, f)
 
 -- an edit that lands the jumps to here where they are: it may as well be made after that
-post-pre : (g : ℕ → Act) (n : ℕ) (o : Out) → g 0 ≡ land n none n → post g o ≡ post g (post (one 0 (land n none n)) o)
+post-pre : (g : ℕ → Act) (n : ℕ) (o : Outcome) → g 0 ≡ land n none n → post g o ≡ post g (post (one 0 (land n none n)) o)
 post-pre g n (at p R h) q = refl
 post-pre g n stuck q = refl
 post-pre g n (exit ℓ b R h) q = go (same ℓ 0) b refl
@@ -89,7 +89,7 @@ post-pre g n (exit ℓ b R h) q = go (same ℓ 0) b refl
     go true (some b) e = rw (ap g (same-true ℓ 0 e) ∙ q) (rw e refl)
     go false b e = rw e refl
 
-swap-lands : (t f r p : ℕ) (o : Out) → (t ≡ 0 → ⊥) → (f ≡ 0 → ⊥) → post (one 0 (land p none p)) (post (lands t f r p p p) o) ≡ post (lands t f r p p p) (post (one 0 (land p none p)) o)
+swap-lands : (t f r p : ℕ) (o : Outcome) → (t ≡ 0 → ⊥) → (f ≡ 0 → ⊥) → post (one 0 (land p none p)) (post (lands t f r p p p) o) ≡ post (lands t f r p p p) (post (one 0 (land p none p)) o)
 swap-lands t f r p (at q R h) n m = refl
 swap-lands t f r p stuck n m = refl
 swap-lands t f r p (exit ℓ b R h) n m = go (same ℓ 0) (same ℓ t) (same ℓ f) b refl refl refl
@@ -111,13 +111,13 @@ abbrev pub isSome : Option ℕ → Bool
 isSome none = false
 isSome (some b) = true
 
-abbrev pub Shows : Bool → ℕ → ℕ → Out → Type 0
+abbrev pub Shows : Bool → ℕ → ℕ → Outcome → Type 0
 Shows vals t f (at p R h) = Unit {0}
 Shows vals t f stuck = Unit {0}
 Shows vals t f (exit ℓ b R h) = ((same ℓ t || same ℓ f) && not (vals && isSome b)) ≡ false
 
 module _ (Γ : Setting) where
-  shows-choose : (vals : Bool) (t f : ℕ) (k : Bool) (a b : Out) → Shows vals t f a → Shows vals t f b → Shows vals t f (choose Γ k a b)
+  shows-choose : (vals : Bool) (t f : ℕ) (k : Bool) (a b : Outcome) → Shows vals t f a → Shows vals t f b → Shows vals t f (choose Γ k a b)
   shows-choose vals t f true a b x y = x
   shows-choose vals t f false a b x y = y
 
@@ -134,7 +134,7 @@ module _ (Γ : Setting) where
   shows-perform vals t f (br (cmp o c x y) (to p)) n R h q = shows-choose vals t f (agrees (compared Γ o x y R h .gives) c) _ _ tt tt
   shows-perform vals t f (br (cmp o c x y) (lbl ℓ)) n R h q = shows-choose vals t f (agrees (compared Γ o x y R h .gives) c) (exit ℓ none R (compared Γ o x y R h .steps)) (at (2 + n) R (compared Γ o x y R h .steps)) q tt
 
-  shows-step : (vals : Bool) (t f : ℕ) (n : ℕ) (i : Instr) (o : Out) → hit1 vals t f i ≡ false → Shows vals t f o → Shows vals t f (step Γ n i o)
+  shows-step : (vals : Bool) (t f : ℕ) (n : ℕ) (i : Instr) (o : Outcome) → hit1 vals t f i ≡ false → Shows vals t f o → Shows vals t f (step Γ n i o)
   shows-step vals t f n i (at p R h) q w = go (same p n)
     where
       go : (k : Bool) → Shows vals t f (stepAt Γ k n i p R h)
@@ -153,7 +153,7 @@ module _ (Γ : Setting) where
   off-goto (to p) b R h q = tt
   off-goto (lbl ℓ) b R h q = q
 
-  off-choose : (k : Bool) (a b : Out) → Off a → Off b → Off (choose Γ k a b)
+  off-choose : (k : Bool) (a b : Outcome) → Off a → Off b → Off (choose Γ k a b)
   off-choose true a b x y = x
   off-choose false a b x y = y
 
@@ -165,7 +165,7 @@ module _ (Γ : Setting) where
   off-perform (br (tseta a b c) t) n R h q = off-choose (agrees (is-true (R b)) c) _ _ (off-goto t none (upd a (R b) R) h q) tt
   off-perform (br (cmp o c x y) t) n R h q = off-choose (agrees (compared Γ o x y R h .gives) c) _ _ (off-goto t none R (compared Γ o x y R h .steps) q) tt
 
-  off-step : (n : ℕ) (i : Instr) (o : Out) → Named i → Off o → Off (step Γ n i o)
+  off-step : (n : ℕ) (i : Instr) (o : Outcome) → Named i → Off o → Off (step Γ n i o)
   off-step n i (at p R h) q w = go (same p n)
     where
       go : (t : Bool) → Off (stepAt Γ t n i p R h)
@@ -174,10 +174,10 @@ module _ (Γ : Setting) where
   off-step n i (exit ℓ b R h) q w = w
   off-step n i stuck q w = tt
 
-  unfoldable pub curC : Code → Out
+  unfoldable pub curC : Code → Outcome
   curC c = post (here c) (exec Γ c)
 
-  abbrev pub cur : St → Out
+  abbrev pub cur : St → Outcome
   cur s = curC (s .code)
 
   pub off-cur : (s : St) → Off (cur s)
@@ -240,7 +240,7 @@ module _ (Γ : Setting) where
   cur-here a s n = rw (size-edit (one a (re 0 false)) (s .code), exec-one a (re 0 false) (s .code) tt)
       (post-here a (size (s .code)) (exec Γ (s .code)) n)
 
-  jump-take : (m n p : ℕ) (o : Out) → (m ≡ 0 → ⊥) → post (one 0 (land p none p)) (step Γ n (br always (lbl m)) (post (one 0 (re m true)) o))
+  jump-take : (m n p : ℕ) (o : Outcome) → (m ≡ 0 → ⊥) → post (one 0 (land p none p)) (step Γ n (br always (lbl m)) (post (one 0 (re m true)) o))
       ≡ step Γ n (br always (lbl m)) (post (one 0 (land n none n)) o)
   jump-take m n p stuck k = refl
   jump-take m n p (at q R h) k = post-off (land p none p) (step Γ n (br always (lbl m)) (at q R h)) (off-step n (br always (lbl m)) (at q R h) k tt)
@@ -257,7 +257,7 @@ module _ (Γ : Setting) where
   cur-emitJump m s n = rw (size-edit (one 0 (re m true)) (s .code), exec-one 0 (re m true) (s .code) tt)
       (jump-take m (size (s .code)) _ (exec Γ (s .code)) n)
 
-  shows-land : (vals : Bool) (t f p : ℕ) (o : Out) → Shows vals t f o → Shows vals t f (post (one 0 (land p none p)) o)
+  shows-land : (vals : Bool) (t f p : ℕ) (o : Outcome) → Shows vals t f o → Shows vals t f (post (one 0 (land p none p)) o)
   shows-land vals t f p (at q R h) w = tt
   shows-land vals t f p stuck w = tt
   shows-land vals t f p (exit ℓ b R h) w = go (same ℓ 0) b w

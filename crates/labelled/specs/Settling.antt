@@ -4,7 +4,7 @@ use mathlib.Core.Bool.{Bool, true, false}
 use mathlib.Core.Path.{_≡_, refl, ap, sym, _∙_}
 use mathlib.Core.Option.{Option, some, none}
 use native.Mathlib.Omega.{arith as nat}
-use Rattle.model.specs.Values.{Value, truth, Kind, Taken, taken}
+use Rattle.model.specs.Values.{Value, truth, StepKind, Taken, taken}
 use Rattle.model.specs.Running.{same as agrees}
 use Rattle.labelled.specs.Code.{same, same-ne, same-true, same-refl, Rk, cmp, lbl, br, size}
 use Rattle.labelled.specs.Machine.{Hist, Regs, Setting, pick, upd, upd-same, wr, at, exit, eval, compared}
@@ -42,7 +42,7 @@ size-landAll : (t f r : ℕ) (s : St) → Z (landAll t f r s) ≡ Z s
 unfolding landAll size
 size-landAll t f r s = rw (size-edit (lands t f r (Z s) (Z s) (Z s)) (s .code)) (omega nat)
 
-hit-cmp : (vals : Bool) (t f : ℕ) (o : Kind) (c : Bool) (x y : Rk) (s : St) → hit vals t f (push (br (cmp o c x y) (lbl t)) s .code) ≡ true
+hit-cmp : (vals : Bool) (t f : ℕ) (o : StepKind) (c : Bool) (x y : Rk) (s : St) → hit vals t f (push (br (cmp o c x y) (lbl t)) s .code) ≡ true
 unfolding push hit
 hit-cmp true t f o c x y s = rw (same-refl t) refl
 hit-cmp false t f o c x y s = rw (same-refl t) refl
@@ -203,7 +203,7 @@ module _ (Γ : Setting) where
   }
 
   -- exp2reg from a fallen state
-  e2r-cmp : (w : Bool) (o : Kind) (d : Bool) (x y : Rk) (e : Des4) (r n : ℕ) (s s₁ : St) (R R′ : Regs) (h h′ : Hist) (L : Labs e (s₁ .nxt)) → n ≤ r → s₁ ≡ push (br (cmp o d x y) (lbl (e .tl))) s →
+  e2r-cmp : (w : Bool) (o : StepKind) (d : Bool) (x y : Rk) (e : Des4) (r n : ℕ) (s s₁ : St) (R R′ : Regs) (h h′ : Hist) (L : Labs e (s₁ .nxt)) → n ≤ r → s₁ ≡ push (br (cmp o d x y) (lbl (e .tl))) s →
       h′ ≡ compared Γ o x y R′ h .steps → agrees (Γ .world .holds h′) d ≡ w → C Γ s ≡ at (Z s) R′ h → Agree n R R′ →
       Done Γ (settle (hit false (e .tl) (e .fl) (s₁ .code)) (hit true (e .tl) (e .fl) (s₁ .code)) true (s₁ .nxt) e r s₁) r n R (taken (truth w) h′)
   e2r-cmp true o d x y e r n s s₁ R R′ h h′ L l es eh ew q ag =

@@ -14,7 +14,7 @@ use Rattle.buffers.specs.Laws.{length-pad, pad-none, set-pad}
 use Rattle.listing.specs.declared.Pen.{Pen}
 use Rattle.listing.specs.declared.Listed.the-variants as listed
 use Rattle.listing.specs.Listing.{decimal, hex, glyph, refusal-line, word-lines, constant-lines, word-line, constant-line}
-use Rattle.listing.specs.Page.{Page, page, put, puts, Left, left, written}
+use Rattle.listing.specs.Page.{Page, page, put, puts, Sheet, sheet, written}
 
 -- ---- one text behind another
 
@@ -195,19 +195,19 @@ module _ (n : ℕ) where
     cut : n < length t → p .room ≡ false
     cut l = sym (ap (λ (g : Page). g .pen .room) from-nothing) ∙ no-room t [] (omega arith) (omega arith)
 
-    pub written-whole : p .room ≡ true → written n t ≡ left (listed.Written (p .at)) o
+    pub written-whole : p .room ≡ true → written n t ≡ sheet (listed.Written (p .at)) o
     unfolding written
     written-whole r = go (leb (length t) n) refl
       where
-        go : (b : Bool) → leb (length t) n ≡ b → elim b as (λ (_ : Bool). Left) [ true ↦ left (listed.Written (length t)) (pad n t) | false ↦ left listed.Short (zeros n) ] ≡ left (listed.Written (p .at)) o
-        go true b = let w = whole (leb-true (length t) n b) in ap (λ (g : Page). left (listed.Written (g .pen .at)) (g .out)) w
+        go : (b : Bool) → leb (length t) n ≡ b → elim b as (λ (_ : Bool). Sheet) [ true ↦ sheet (listed.Written (length t)) (pad n t) | false ↦ sheet listed.Short (zeros n) ] ≡ sheet (listed.Written (p .at)) o
+        go true b = let w = whole (leb-true (length t) n b) in ap (λ (g : Page). sheet (listed.Written (g .pen .at)) (g .out)) w
         go false b = absurd (let w : true ≡ false = sym r ∙ cut (leb-false (length t) n b) in let u : _≡_ {A = ℕ} 0 1 = cc in omega arith)
 
-    pub written-not : p .room ≡ false → written n t ≡ left listed.Short (zeros n)
+    pub written-not : p .room ≡ false → written n t ≡ sheet listed.Short (zeros n)
     unfolding written
     written-not r = go (leb (length t) n) refl
       where
-        go : (b : Bool) → leb (length t) n ≡ b → elim b as (λ (_ : Bool). Left) [ true ↦ left (listed.Written (length t)) (pad n t) | false ↦ left listed.Short (zeros n) ] ≡ left listed.Short (zeros n)
+        go : (b : Bool) → leb (length t) n ≡ b → elim b as (λ (_ : Bool). Sheet) [ true ↦ sheet (listed.Written (length t)) (pad n t) | false ↦ sheet listed.Short (zeros n) ] ≡ sheet listed.Short (zeros n)
         go true b = absurd (let w : true ≡ false = ap (λ (g : Page). g .pen .room) (whole (leb-true (length t) n b)) ∙ r in let u : _≡_ {A = ℕ} 0 1 = cc in omega arith)
         go false b = refl
 
@@ -219,8 +219,8 @@ pub refusal-told : (o : List ℕ) (p : Pen) {n x y : ℕ} {r : Page} → n ≡ x
 refusal-told o p a b e = ap (λ y. puts (refusal-line y) o p) (a ∙ b) ∙ e
 
 -- the buffer that was cleared, and the answer
-pub listed-whole : (n : ℕ) (t : List ℕ) {z o : List ℕ} {p : Pen} → zeros n ≡ z → puts t z (pen-at 0 true) ≡ page p o → p .room ≡ true → written n t ≡ left (listed.Written (p .at)) o
+pub listed-whole : (n : ℕ) (t : List ℕ) {z o : List ℕ} {p : Pen} → zeros n ≡ z → puts t z (pen-at 0 true) ≡ page p o → p .room ≡ true → written n t ≡ sheet (listed.Written (p .at)) o
 listed-whole n t {o = o} {p = p} c e r = written-whole n t o p (ap (λ z. puts t z (pen-at 0 true)) c ∙ e) r
 
-pub listed-not : (n : ℕ) (t : List ℕ) {z o o′ : List ℕ} {p : Pen} → zeros n ≡ z → puts t z (pen-at 0 true) ≡ page p o → p .room ≡ false → length o ≡ n → zeros (length o) ≡ o′ → written n t ≡ left listed.Short o′
-listed-not n t {o = o} {p = p} c e r k d = written-not n t o p (ap (λ z. puts t z (pen-at 0 true)) c ∙ e) r ∙ ap (λ y. left listed.Short y) (ap zeros (sym k) ∙ d)
+pub listed-not : (n : ℕ) (t : List ℕ) {z o o′ : List ℕ} {p : Pen} → zeros n ≡ z → puts t z (pen-at 0 true) ≡ page p o → p .room ≡ false → length o ≡ n → zeros (length o) ≡ o′ → written n t ≡ sheet listed.Short o′
+listed-not n t {o = o} {p = p} c e r k d = written-not n t o p (ap (λ z. puts t z (pen-at 0 true)) c ∙ e) r ∙ ap (λ y. sheet listed.Short y) (ap zeros (sym k) ∙ d)

@@ -34,16 +34,16 @@ puts [] o p = page p o
 puts (b ∷ bs) o p = let q = put b o p in puts bs (q .out) (q .pen)
 
 -- what a buffer of n bytes is left with, and the answer
-pub record Left : Type 0 where
+pub record Sheet : Type 0 where
   pub answer : Listed
   pub out : List ℕ
 
-abbrev pub left : Listed → List ℕ → Left
-left r o = record { answer = r; out = o }
+abbrev pub sheet : Listed → List ℕ → Sheet
+sheet r o = record { answer = r; out = o }
 
-unfoldable pub written : ℕ → List ℕ → Left
+unfoldable pub written : ℕ → List ℕ → Sheet
 written n text =
     elim (leb (length text) n) [
-      | true ↦ left (listed.Written (length text)) (pad n text)
-      | false ↦ left listed.Short (zeros n)
+      | true ↦ sheet (listed.Written (length text)) (pad n text)
+      | false ↦ sheet listed.Short (zeros n)
     ]

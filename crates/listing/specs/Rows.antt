@@ -4,7 +4,7 @@ use mathlib.Core.List.{[], _∷_}
 use Rattle.refusals.specs.declared.Refusal.the-variants as refusal
 use Rattle.model.specs.declared.Lowered.the-variants as answer
 use Rattle.listing.specs.Listing.{ascii, decimal, hex, word-lines, constant-lines, listing}
-use Rattle.listing.specs.Page.{left, written}
+use Rattle.listing.specs.Page.{sheet, written}
 use Rattle.listing.specs.declared.Listed.the-variants as listed
 use Rattle.buffers.specs.Pad.{pad}
 
@@ -37,14 +37,14 @@ unfolding hex
 digits = refl
 
 -- a buffer that just fits, one that is longer, one that is too short
-pub fits : written 2 (65 ∷ 66 ∷ []) ≡ left (listed.Written 2) (65 ∷ 66 ∷ [])
+pub fits : written 2 (65 ∷ 66 ∷ []) ≡ sheet (listed.Written 2) (65 ∷ 66 ∷ [])
 unfolding written pad
 fits = refl
 
-pub longer : written 4 (65 ∷ 66 ∷ []) ≡ left (listed.Written 2) (65 ∷ 66 ∷ 0 ∷ 0 ∷ [])
+pub longer : written 4 (65 ∷ 66 ∷ []) ≡ sheet (listed.Written 2) (65 ∷ 66 ∷ 0 ∷ 0 ∷ [])
 unfolding written pad
 longer = refl
 
-pub too-short : written 1 (65 ∷ 66 ∷ []) ≡ left listed.Short (0 ∷ [])
+pub too-short : written 1 (65 ∷ 66 ∷ []) ≡ sheet listed.Short (0 ∷ [])
 unfolding written pad
 too-short = refl

@@ -4,7 +4,7 @@ ghost use mathlib.Core.Bool.{true};
 ghost use Prim.Native.Nat.{_+_, _%_};
 ghost use lib.ListN.{length, take};
 ghost use Rattle.listing.specs.Listing.{decimal as decimalOf, hex as hexOf, glyph, word-line, constant-line, word-lines, constant-lines, count-line, refusal-line, listing as listingOf};
-ghost use Rattle.listing.specs.Page.{page, put as putOf, puts, left, written};
+ghost use Rattle.listing.specs.Page.{page, put as putOf, puts, sheet, written};
 use buffers::clear_bytes;
 use model::Lowered;
 
@@ -230,7 +230,7 @@ pub fn listing(
     values: &[u64],
     out: &mut [u8],
 ) -> Listed
-    ensures { λ r. ⌜ written (length (now (out .entry))) (listingOf answer (now (code .entry)) (now (lines .entry)) (now (kinds .entry)) (now (values .entry))) ≡ left r (now (out .exit)) ⌝ }
+    ensures { λ r. ⌜ written (length (now (out .entry))) (listingOf answer (now (code .entry)) (now (lines .entry)) (now (kinds .entry)) (now (values .entry))) ≡ sheet r (now (out .exit)) ⌝ }
 {
     clear_bytes(out);
     let pen = lines_of(answer, code, lines, kinds, values, out);

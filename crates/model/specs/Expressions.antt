@@ -32,7 +32,7 @@ use Rattle.chunk.specs.declared.header.Header.{Header}
 use Rattle.model.specs.declared.ExprKind.the-variants.{Nil, True, False, K, Local, Global, Indexed, NonReloc, Call, VarArg}
 use Rattle.model.specs.declared.ExprContext.{ExprContext}
 use Rattle.model.specs.Descriptor.{newOf, descriptorOf, with-kind, isKind}
-use Rattle.model.specs.Values.{later, named}
+use Rattle.model.specs.Values.{last-wins, named}
 use Rattle.model.specs.Steps.{Step, _>>=_, _>>_, return, refuse, get, change}
 use Rattle.model.specs.Emission.{with-place, with-free, emit-at, emit-abc, reserve-regs, add-constant}
 use Rattle.model.specs.Discharge.{change-word, discharge-vars, free-expr, exp2nextreg, exp2anyreg, exp2rk, rk}
@@ -43,7 +43,7 @@ use Rattle.model.specs.Operators.{before-right, after-right, code-unop}
 -- `search_local`: the last of the names, from register r on, whose bytes these are
 unfoldable pub search-local : List ℕ → List ℕ → List Text → ℕ → Option ℕ
 search-local chunk name [] r = none
-search-local chunk name (t ∷ ts) r = later (search-local chunk name ts (suc r)) (named chunk name t r)
+search-local chunk name (t ∷ ts) r = last-wins (search-local chunk name ts (suc r)) (named chunk name t r)
 
 -- ---- calls
 

@@ -18,7 +18,7 @@ use Rattle.ast.specs.declared.Two.the-variants as two
 use Rattle.ast.specs.declared.Many.{Many}
 use Rattle.ast.specs.declared.Many.the-variants as many
 use Rattle.chunk.specs.Ast.{Expr, leaf as leaf-node, one as one-node, two as two-node, many as many-node, Exprs, none as no-more, more, Chunk}
-use Rattle.model.specs.Values.{later, named, Value, nil, truth, number, text, is-true, first, Kind, global-read, index-read, equal, less, less-or-equal, length-of, concatenation, Outward, World, Taken, taken, ask, ask-many, ask-truth, compute, negation}
+use Rattle.model.specs.Values.{last-wins, named, Value, nil, truth, number, text, is-true, first, StepKind, global-read, index-read, equal, less, less-or-equal, length-of, concatenation, Outward, World, Taken, taken, ask, ask-many, ask-truth, compute, negation}
 
 -- a reading, from the steps so far on
 abbrev pub Read : Type 0 → Type 0
@@ -47,7 +47,7 @@ only x = do
 unfoldable pub local-named : List ℕ → List ℕ → List Text → List Value → Option Value
 local-named chunk name [] vs = none
 local-named chunk name (t ∷ ts) [] = none
-local-named chunk name (t ∷ ts) (v ∷ vs) = later (local-named chunk name ts vs) (named chunk name t v)
+local-named chunk name (t ∷ ts) (v ∷ vs) = last-wins (local-named chunk name ts vs) (named chunk name t v)
 
 -- the chunk's bytes hold the texts; the locals by name and value; the varargs
 module _ (w : World) (chunk : List ℕ) (names : List Text) (locals varargs : List Value) where
@@ -73,7 +73,7 @@ module _ (w : World) (chunk : List ℕ) (names : List Text) (locals varargs : Li
   read-one one.Paren v = return v
 
   -- a comparison's answer as a value (2.5.2)
-  abbrev pub compare : Kind → Value → Value → Read Value
+  abbrev pub compare : StepKind → Value → Value → Read Value
   compare k a b = do
     t ← ask-truth w k (a ∷ b ∷ [])
     return (truth t)

@@ -83,14 +83,20 @@ rows =
     record { chunk = (0 ∷ 251 ∷ nils 251 []); answer = refusal 10 } ∷
     -- P5: ((1 or false) and true) or false: ten words
     record { chunk = p5-chunk; answer = words (1 ∷ 16410 ∷ 2147549206 ∷ 2147483670 ∷ 2147516438 ∷ 2 ∷ 2147500054 ∷ 16386 ∷ 8388610 ∷ 16777246 ∷ []) (1 ∷ 1 ∷ 1 ∷ 1 ∷ 1 ∷ 1 ∷ 1 ∷ 1 ∷ 1 ∷ 1 ∷ []) (3 ∷ []) (4607182418800017408 ∷ []) 0 2 } ∷
+    -- P5 as it is written, in parentheses
+    record { chunk = (0 ∷ 1 ∷ 7 ∷ 8 ∷ 14 ∷ 13 ∷ 0 ∷ 7 ∷ 8 ∷ 13 ∷ 13 ∷ 0 ∷ 7 ∷ 8 ∷ 14 ∷ 3 ∷ 2 ∷ 0 ∷ 0 ∷ 0 ∷ 0 ∷ 0 ∷ 0 ∷ 240 ∷ 63 ∷ 2 ∷ 0 ∷ 1 ∷ 0 ∷ 2 ∷ 0 ∷ []); answer = words (1 ∷ 16410 ∷ 2147549206 ∷ 2147483670 ∷ 2147516438 ∷ 2 ∷ 2147500054 ∷ 16386 ∷ 8388610 ∷ 16777246 ∷ []) (1 ∷ 1 ∷ 1 ∷ 1 ∷ 1 ∷ 1 ∷ 1 ∷ 1 ∷ 1 ∷ 1 ∷ []) (3 ∷ []) (4607182418800017408 ∷ []) 0 2 } ∷
     -- P6: 1 / 0: Div 0 257 256
     record { chunk = (0 ∷ 1 ∷ 7 ∷ 8 ∷ 3 ∷ 3 ∷ 2 ∷ 0 ∷ 0 ∷ 0 ∷ 0 ∷ 0 ∷ 0 ∷ 240 ∷ 63 ∷ 3 ∷ 2 ∷ 0 ∷ 0 ∷ 0 ∷ 0 ∷ 0 ∷ 0 ∷ 0 ∷ 0 ∷ []); answer = words (2160066575 ∷ 16777246 ∷ []) (1 ∷ 1 ∷ []) (3 ∷ 3 ∷ []) (0 ∷ 4607182418800017408 ∷ []) 0 2 } ∷
     -- P7: 7 % -3 folds to -2
     record { chunk = (0 ∷ 1 ∷ 7 ∷ 8 ∷ 4 ∷ 3 ∷ 2 ∷ 0 ∷ 0 ∷ 0 ∷ 0 ∷ 0 ∷ 0 ∷ 28 ∷ 64 ∷ 3 ∷ 2 ∷ 0 ∷ 0 ∷ 0 ∷ 0 ∷ 0 ∷ 0 ∷ 8 ∷ 192 ∷ []); answer = words (1 ∷ 16777246 ∷ []) (1 ∷ 1 ∷ []) (3 ∷ []) (13835058055282163712 ∷ []) 0 2 } ∷
+    -- P7 as it is written: 3 under a minus
+    record { chunk = (0 ∷ 1 ∷ 7 ∷ 8 ∷ 4 ∷ 3 ∷ 2 ∷ 0 ∷ 0 ∷ 0 ∷ 0 ∷ 0 ∷ 0 ∷ 28 ∷ 64 ∷ 8 ∷ 8 ∷ 0 ∷ 3 ∷ 2 ∷ 0 ∷ 0 ∷ 0 ∷ 0 ∷ 0 ∷ 0 ∷ 8 ∷ 64 ∷ []); answer = words (1 ∷ 16777246 ∷ []) (1 ∷ 1 ∷ []) (3 ∷ []) (13835058055282163712 ∷ []) 0 2 } ∷
     -- P8: 5 % infinity isn't folded
     record { chunk = (0 ∷ 1 ∷ 7 ∷ 8 ∷ 4 ∷ 3 ∷ 2 ∷ 0 ∷ 0 ∷ 0 ∷ 0 ∷ 0 ∷ 0 ∷ 20 ∷ 64 ∷ 3 ∷ 2 ∷ 0 ∷ 0 ∷ 0 ∷ 0 ∷ 0 ∷ 0 ∷ 240 ∷ 127 ∷ []); answer = words (2160066576 ∷ 16777246 ∷ []) (1 ∷ 1 ∷ []) (3 ∷ 3 ∷ []) (9218868437227405312 ∷ 4617315517961601024 ∷ []) 0 2 } ∷
     -- P9: 0 and then -0: two constants
     record { chunk = (0 ∷ 2 ∷ 3 ∷ 2 ∷ 0 ∷ 0 ∷ 0 ∷ 0 ∷ 0 ∷ 0 ∷ 0 ∷ 0 ∷ 3 ∷ 2 ∷ 0 ∷ 0 ∷ 0 ∷ 0 ∷ 0 ∷ 0 ∷ 0 ∷ 128 ∷ []); answer = words (1 ∷ 16449 ∷ 25165854 ∷ []) (1 ∷ 1 ∷ 1 ∷ []) (3 ∷ 3 ∷ []) (0 ∷ 9223372036854775808 ∷ []) 0 2 } ∷
+    -- P9 as it is written: 0 under a minus
+    record { chunk = (0 ∷ 2 ∷ 3 ∷ 2 ∷ 0 ∷ 0 ∷ 0 ∷ 0 ∷ 0 ∷ 0 ∷ 0 ∷ 0 ∷ 8 ∷ 8 ∷ 0 ∷ 3 ∷ 2 ∷ 0 ∷ 0 ∷ 0 ∷ 0 ∷ 0 ∷ 0 ∷ 0 ∷ 0 ∷ []); answer = words (1 ∷ 16449 ∷ 25165854 ∷ []) (1 ∷ 1 ∷ 1 ∷ []) (3 ∷ 3 ∷ []) (0 ∷ 9223372036854775808 ∷ []) 0 2 } ∷
     -- P10: a .. b .. c: Concat 0 0 2, five words
     record { chunk = (0 ∷ 1 ∷ 7 ∷ 8 ∷ 6 ∷ 6 ∷ 4 ∷ 1 ∷ 0 ∷ 97 ∷ 7 ∷ 8 ∷ 6 ∷ 6 ∷ 4 ∷ 1 ∷ 0 ∷ 98 ∷ 6 ∷ 4 ∷ 1 ∷ 0 ∷ 99 ∷ []); answer = words (5 ∷ 16453 ∷ 32901 ∷ 32789 ∷ 16777246 ∷ []) (1 ∷ 1 ∷ 1 ∷ 1 ∷ 1 ∷ []) (4 ∷ 4 ∷ 4 ∷ []) (1 ∷ 65537 ∷ 131073 ∷ []) 3 3 } ∷
     -- P11: 249 nils, then f(...)
@@ -140,7 +146,7 @@ more-rows =
     record { chunk = (1 ∷ 1 ∷ 1 ∷ 0 ∷ 97 ∷ 2 ∷ 13 ∷ 0 ∷ 7 ∷ 8 ∷ 14 ∷ 7 ∷ 8 ∷ 13 ∷ 7 ∷ 8 ∷ 13 ∷ 6 ∷ 4 ∷ 1 ∷ 0 ∷ 120 ∷ 2 ∷ 0 ∷ 7 ∷ 8 ∷ 3 ∷ 6 ∷ 4 ∷ 1 ∷ 0 ∷ 121 ∷ 0 ∷ 0 ∷ 7 ∷ 8 ∷ 13 ∷ 13 ∷ 0 ∷ 2 ∷ 0 ∷ 7 ∷ 8 ∷ 9 ∷ 1 ∷ 0 ∷ 4 ∷ 4 ∷ 4 ∷ 0 ∷ 115 ∷ 50 ∷ 53 ∷ 53 ∷ 6 ∷ 4 ∷ 1 ∷ 0 ∷ 99 ∷ []); answer = words (69 ∷ 90 ∷ 2147598358 ∷ 2147581974 ∷ 16453 ∷ 12615759 ∷ 16474 ∷ 2147549206 ∷ 2147500054 ∷ 2185281624 ∷ 2147483670 ∷ 16450 ∷ 8388674 ∷ 82053 ∷ 25165918 ∷ []) (1 ∷ 1 ∷ 1 ∷ 1 ∷ 1 ∷ 1 ∷ 1 ∷ 1 ∷ 1 ∷ 1 ∷ 1 ∷ 1 ∷ 1 ∷ 1 ∷ 1 ∷ []) (4 ∷ 4 ∷ 0 ∷ 2 ∷ 4 ∷ 4 ∷ []) (1 ∷ 65537 ∷ 0 ∷ 0 ∷ 131076 ∷ 393217 ∷ []) 7 3 } ∷
     []
 
--- chunks with short buffers (differences 4 and 5): the number of the refusal, 0 where it is accepted
+-- chunks with short buffers (differences 4 and 5, and which of 9 to 13 comes first): the number of the refusal, 0 where it is accepted
 record Sized : Type 0 where
   sizes : Sizes
   chunk : List ℕ
@@ -165,6 +171,20 @@ sized =
     record { sizes = record { code = 2; lines = 1; kinds = 8; values = 8; pool = 8; scratch = 512 }; chunk = (0 ∷ 1 ∷ 6 ∷ 4 ∷ 1 ∷ 0 ∷ 120 ∷ []); number = 13 } ∷
     -- enough: x with two words, one constant and one byte: accepted
     record { sizes = record { code = 2; lines = 2; kinds = 1; values = 1; pool = 1; scratch = 1 }; chunk = (0 ∷ 1 ∷ 6 ∷ 4 ∷ 1 ∷ 0 ∷ 120 ∷ []); number = 0 } ∷
+    -- word-first: 250 nils, then x with no word: 13 for `GetGlobal`, before the 10 of its register
+    record { sizes = record { code = 0; lines = 64; kinds = 8; values = 8; pool = 8; scratch = 512 }; chunk = (0 ∷ 251 ∷ nils 250 (6 ∷ 4 ∷ 1 ∷ 0 ∷ 120 ∷ [])); number = 13 } ∷
+    -- register-first: the same with one word: 10, before the 13 of `Return`
+    record { sizes = record { code = 1; lines = 64; kinds = 8; values = 8; pool = 8; scratch = 512 }; chunk = (0 ∷ 251 ∷ nils 250 (6 ∷ 4 ∷ 1 ∷ 0 ∷ 120 ∷ [])); number = 10 } ∷
+    -- text-first: the same with no text bytes and no word: 12, before 13 and 10
+    record { sizes = record { code = 0; lines = 64; kinds = 8; values = 8; pool = 0; scratch = 512 }; chunk = (0 ∷ 251 ∷ nils 250 (6 ∷ 4 ∷ 1 ∷ 0 ∷ 120 ∷ [])); number = 12 } ∷
+    -- register-before-text: 250 nils, then x .. y with one text byte: 10 for x, before the 12 of y
+    record { sizes = record { code = 64; lines = 64; kinds = 8; values = 8; pool = 1; scratch = 512 }; chunk = (0 ∷ 251 ∷ nils 250 (7 ∷ 8 ∷ 6 ∷ 6 ∷ 4 ∷ 1 ∷ 0 ∷ 120 ∷ 6 ∷ 4 ∷ 1 ∷ 0 ∷ 121 ∷ [])); number = 10 } ∷
+    -- word-before-constant: x, then y with one entry and no word: 13 for x, before the 11 of y
+    record { sizes = record { code = 64; lines = 0; kinds = 1; values = 8; pool = 8; scratch = 512 }; chunk = (0 ∷ 2 ∷ 6 ∷ 4 ∷ 1 ∷ 0 ∷ 120 ∷ 6 ∷ 4 ∷ 1 ∷ 0 ∷ 121 ∷ []); number = 13 } ∷
+    -- word-before-text: the same with one text byte: 13 for x, before the 12 of y
+    record { sizes = record { code = 64; lines = 0; kinds = 8; values = 8; pool = 1; scratch = 512 }; chunk = (0 ∷ 2 ∷ 6 ∷ 4 ∷ 1 ∷ 0 ∷ 120 ∷ 6 ∷ 4 ∷ 1 ∷ 0 ∷ 121 ∷ []); number = 13 } ∷
+    -- constant-before-word: the same with one entry and one word: 11 for y, before the 13 of its word
+    record { sizes = record { code = 64; lines = 1; kinds = 1; values = 8; pool = 8; scratch = 512 }; chunk = (0 ∷ 2 ∷ 6 ∷ 4 ∷ 1 ∷ 0 ∷ 120 ∷ 6 ∷ 4 ∷ 1 ∷ 0 ∷ 121 ∷ []); number = 11 } ∷
     -- scratch: -x, with a scratch of one: 9 before 11
     record { sizes = record { code = 64; lines = 64; kinds = 0; values = 8; pool = 8; scratch = 1 }; chunk = (0 ∷ 1 ∷ 8 ∷ 8 ∷ 0 ∷ 6 ∷ 4 ∷ 1 ∷ 0 ∷ 120 ∷ []); number = 9 } ∷
     []

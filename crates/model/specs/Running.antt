@@ -14,7 +14,7 @@ use Rattle.opcodes.specs.declared.OpCode.{OpCode}
 use Rattle.opcodes.specs.declared.OpCode.the-variants as op
 use Rattle.folding.specs.declared.Arith.the-variants as arith
 use Rattle.constants.specs.Entry.{Constant, entryOf}
-use Rattle.model.specs.Values.{Value, nil, truth, number, text, other, valueOf, is-true, fit, Kind, global-read, index-read, equal, less, less-or-equal, length-of, concatenation, Outward, World, Taken, taken, ask, ask-many, ask-truth, compute, negation}
+use Rattle.model.specs.Values.{Value, nil, truth, number, text, other, valueOf, is-true, fit, StepKind, global-read, index-read, equal, less, less-or-equal, length-of, concatenation, Outward, World, Taken, taken, ask, ask-many, ask-truth, compute, negation}
 
 -- what is run: words, the constants with their texts, and the frame
 pub record Program : Type 0 where
@@ -130,7 +130,7 @@ module _ (w : World) (p : Program) (varargs : List Value) where
   abbrev pub computed : Machine → ℕ → Taken Value → After
   computed m a t = to (with-steps (t .steps) m) a (t .gives)
 
-  abbrev pub asked : Machine → ℕ → Kind → List Value → After
+  abbrev pub asked : Machine → ℕ → StepKind → List Value → After
   asked m a k vs = computed m a (ask w k vs (m .steps))
 
   -- a comparison skips the next word unless the answer is the one asked for

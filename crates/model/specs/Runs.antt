@@ -29,7 +29,7 @@ use Rattle.model.specs.Operators.{free-in-turn, free-both, emit-arith, c
 use Rattle.model.specs.Reading.{local-named, read-leaf, read-one, read-binary, read-two, read-many, read-formulas, read-expr, read-args, reading}
 use Rattle.model.specs.Running.{regs, puts, joined, execute, run-from, Program, Run, returned, stuck-run, run}
 use Rattle.model.specs.Steps.{andThen, Buffers, Result, done, refused}
-use Rattle.model.specs.Values.{compute, negation, Value, nil, truth, number, text, other, Kind, global-read, index-read, call, equal, less, less-or-equal, length-of, concatenation, arithmetic, Outward, World}
+use Rattle.model.specs.Values.{compute, negation, Value, nil, truth, number, text, other, StepKind, global-read, index-read, call, equal, less, less-or-equal, length-of, concatenation, arithmetic, Outward, World}
 use lib.Ieee.{span, climb, size, odd, units, round, neg, sum, add, sub, mul, div, lt, eq, le, ne, ofInt, ofFields, ofBits, nanBits, toBits, isNan}
 use Rattle.model.specs.Claims.{program}
 use Rattle.model.specs.Lowering.{formulas, lower-chunk, lower-formed, lowered, start, counts-of}
@@ -108,7 +108,7 @@ weigh-all : List Value → ℕ
 weigh-all [] = 1
 weigh-all (v ∷ vs) = weigh v + 3 * weigh-all vs
 
-sort : Kind → ℕ
+sort : StepKind → ℕ
 sort global-read = 1
 sort index-read = 2
 sort call = 3

@@ -14,9 +14,9 @@ use Rattle.cursor.specs.Fields.{bytesOf}
 use Rattle.cursor.specs.declared.Text.{Text}
 
 -- of equal names the last wins: what a later name gives, else this one if its bytes are the name
-abbrev pub later : {A : Type 0} → Option A → Option A → Option A
-later (some b) a = some b
-later none a = a
+abbrev pub last-wins : {A : Type 0} → Option A → Option A → Option A
+last-wins (some b) a = some b
+last-wins none a = a
 
 abbrev pub named : {A : Type 0} → List ℕ → List ℕ → Text → A → Option A
 named chunk name t a = elim (sameBytes (bytesOf chunk t) name) [ true ↦ some a | false ↦ none ]
@@ -56,19 +56,19 @@ fit (suc n) [] = nil ∷ fit n []
 fit (suc n) (v ∷ vs) = v ∷ fit n vs
 
 -- the kinds of outward step, with the operator if any
-pub data Kind : Type 0 where
-  global-read : Kind
-  index-read : Kind
-  call : Kind
-  equal : Kind
-  less : Kind
-  less-or-equal : Kind
-  length-of : Kind
-  concatenation : Kind
-  arithmetic : Arith → Kind
+pub data StepKind : Type 0 where
+  global-read : StepKind
+  index-read : StepKind
+  call : StepKind
+  equal : StepKind
+  less : StepKind
+  less-or-equal : StepKind
+  length-of : StepKind
+  concatenation : StepKind
+  arithmetic : Arith → StepKind
 
 pub record Outward : Type 0 where
-  pub kind : Kind
+  pub kind : StepKind
   pub values : List Value
 
 -- the outside: each answer may depend on the step and all earlier ones, the newest first. Calls are answered by a list, comparisons by a truth value, the others by one value
@@ -85,7 +85,7 @@ pub record Taken (A : Type 0) : Type 0 where
 abbrev pub taken : {A : Type 0} → A → List Outward → Taken A
 taken a h = record { gives = a; steps = h }
 
-abbrev pub outward : Kind → List Value → List Outward → List Outward
+abbrev pub outward : StepKind → List Value → List Outward → List Outward
 outward k vs h = record { kind = k; values = vs } ∷ h
 
 -- a number's bits
@@ -104,17 +104,17 @@ folds o none none = Kept
 
 module _ (w : World) where
   -- a step answered by one value, by a list, by a truth value
-  abbrev pub ask : Kind → List Value → List Outward → Taken Value
+  abbrev pub ask : StepKind → List Value → List Outward → Taken Value
   ask k vs h = taken (w .one (outward k vs h)) (outward k vs h)
 
   abbrev pub ask-many : List Value → List Outward → Taken (List Value)
   ask-many vs h = taken (w .many (outward call vs h)) (outward call vs h)
 
-  abbrev pub ask-truth : Kind → List Value → List Outward → Taken Bool
+  abbrev pub ask-truth : StepKind → List Value → List Outward → Taken Bool
   ask-truth k vs h = taken (w .holds (outward k vs h)) (outward k vs h)
 
   -- arithmetic is inward where folding takes the values, else a step
-  abbrev pub unless-folds : Fold → Kind → List Value → List Outward → Taken Value
+  abbrev pub unless-folds : Fold → StepKind → List Value → List Outward → Taken Value
   unless-folds (Folded n) k vs h = taken (number (n .bits)) h
   unless-folds Kept k vs h = ask k vs h
 

@@ -35,6 +35,7 @@ use discharge::with_kind;
 use folding::Arith;
 use folding::Fold;
 use folding::Numeral;
+use instructions::B_SIZE;
 use instructions::MAXINDEXRK;
 use jumps::concat_jumps;
 use model::Described;
@@ -94,7 +95,7 @@ fn with_number(e: ExprContext, n: Numeral) -> ExprContext
 // ---- operands
 
 // Whether a value is in a register and has no jumps.
-fn in_register(e: ExprContext) -> bool
+fn plain_register(e: ExprContext) -> bool
     ensures { λ r. ⌜ (not (has-jumps e) && isKind NonReloc e) ≡ r ⌝ }
 {
     if has_jumps(e) {
@@ -115,7 +116,7 @@ fn exp2rk_again(
 ) -> Described
     ensures { λ r. ⌜ exp2rkOf e st (bufs (now (code .entry)) (now (lines .entry)) (now (kinds .entry)) (now (values .entry)) (now (pool .entry))) ≡ describedIs r (bufs (now (code .exit)) (now (lines .exit)) (now (kinds .exit)) (now (values .exit)) (now (pool .exit))) ⌝ }
 {
-    if in_register(e) {
+    if plain_register(e) {
         return Described::Done(st, e);
     }
     exp2rk(code, lines, kinds, values, pool, st, e)
@@ -525,7 +526,7 @@ fn concat_value(
     ensures { λ r. ⌜ joined-to e1 e2 st (bufs (now (code .entry)) (now (lines .entry)) (now (kinds .entry)) (now (values .entry)) (now (pool .entry))) ≡ describedIs r (bufs (now (code .exit)) (now (lines .exit)) (now (kinds .exit)) (now (values .exit)) (now (pool .exit))) ⌝ }
 {
     if is_relocable(code, e2, OpCode::Concat) {
-        set_b_at(code, e2.info, (e1.info % 512) as u32);
+        set_b_at(code, e2.info, (e1.info % B_SIZE) as u32);
         return Described::Done(
             free_expr(st, e1),
             with_kind(e1, ExprKind::Relocable, e2.info),

@@ -17,7 +17,7 @@ use Rattle.model.specs.Claims.{Padded, Bytes}
 use Rattle.model.specs.Lowering.{lowered}
 use Rattle.padding.specs.Padded.{padded}
 use Rattle.listing.specs.declared.Listed.the-variants as listed
-use Rattle.listing.specs.Page.{Left, left, written}
+use Rattle.listing.specs.Page.{Sheet, sheet, written}
 use Rattle.listing.specs.Listing.{decimal, glyph, hex, word-line, constant-line, word-lines, constant-lines, refusal-line, listing}
 use Rattle.program.specs.Weavelist.{lent, maxInput, list-of, weavelist, maxPage, whole}
 
@@ -88,7 +88,7 @@ fits input bytes = go (leb (length input) maxInput)
 
 -- ---- so a list is written whole
 
-written-within : (n : ℕ) (t : List ℕ) → length t ≤ n → written n t ≡ left (listed.Written (length t)) (pad n t)
+written-within : (n : ℕ) (t : List ℕ) → length t ≤ n → written n t ≡ sheet (listed.Written (length t)) (pad n t)
 unfolding written
 written-within n t h = rw (written, le-leb (length t) n h) refl
 
@@ -103,5 +103,5 @@ bytes-taken (suc n) (x ∷ s) b zero = b zero
 bytes-taken (suc n) (x ∷ s) b (suc i) = bytes-taken n s (λ j. b (suc j)) i
 
 -- what stands on a page of this length, of the bytes that were read
-pub read-whole : (n : ℕ) (s : List ℕ) {k : ℕ} {r : Left} → k ≡ maxPage → Bytes s → written k (weavelist (take n s)) ≡ r → whole (weavelist (take n s)) ≡ r
+pub read-whole : (n : ℕ) (s : List ℕ) {k : ℕ} {r : Sheet} → k ≡ maxPage → Bytes s → written k (weavelist (take n s)) ≡ r → whole (weavelist (take n s)) ≡ r
 read-whole n s q b e = sym (written-whole (take n s) (bytes-taken n s b)) ∙ ap (λ k. written k (weavelist (take n s))) (sym q) ∙ e

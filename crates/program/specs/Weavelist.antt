@@ -10,7 +10,7 @@ use Rattle.buffers.specs.Pad.{pad}
 use Rattle.model.specs.Lowering.{Sizes, Out, lowered}
 use Rattle.listing.specs.declared.Listed.the-variants as listed
 use Rattle.listing.specs.Listing.{refusal-line, listing}
-use Rattle.listing.specs.Page.{Left, left}
+use Rattle.listing.specs.Page.{Sheet, sheet}
 
 -- the buffers that the program lends
 abbrev pub lent : Sizes
@@ -36,5 +36,5 @@ abbrev pub maxPage : ℕ
 maxPage = 589824
 
 -- a list written whole: its length, and the page with the list and then zeros
-abbrev pub whole : List ℕ → Left
-whole t = left (listed.Written (length t)) (pad maxPage t)
+abbrev pub whole : List ℕ → Sheet
+whole t = sheet (listed.Written (length t)) (pad maxPage t)

@@ -5,7 +5,7 @@ ghost use lib.ListN.{length, take};
 ghost use Rattle.model.specs.Steps.{bufs};
 ghost use Rattle.model.specs.Claims.{sizes, Bytes};
 ghost use Rattle.model.specs.Lowering.{lowered};
-ghost use Rattle.listing.specs.Page.{left, written};
+ghost use Rattle.listing.specs.Page.{sheet, written};
 ghost use Rattle.program.specs.Weavelist.{list-of, weavelist as weavelistOf, whole};
 use listing::Listed;
 use listing::listing;
@@ -61,7 +61,7 @@ fn list_in(
     scratch: &mut [u32],
     out: &mut [u8],
 ) -> Listed
-    ensures { λ r. ⌜ written (length (now (out .entry))) (list-of (lowered (sizes (bufs (now (code .entry)) (now (lines .entry)) (now (kinds .entry)) (now (values .entry)) (now (pool .entry))) (length (now (scratch .entry)))) (now (chunk .entry)))) ≡ left r (now (out .exit)) ⌝ }
+    ensures { λ r. ⌜ written (length (now (out .entry))) (list-of (lowered (sizes (bufs (now (code .entry)) (now (lines .entry)) (now (kinds .entry)) (now (values .entry)) (now (pool .entry))) (length (now (scratch .entry)))) (now (chunk .entry)))) ≡ sheet r (now (out .exit)) ⌝ }
 {
     let answer = lower(chunk, code, lines, kinds, values, pool, scratch);
     listing(answer, code, lines, kinds, values, out)
@@ -69,7 +69,7 @@ fn list_in(
 
 // The list of an input of `weavelist`.
 pub fn list_bytes(input: &[u8], out: &mut [u8]) -> Listed
-    ensures { λ r. ⌜ written (length (now (out .entry))) (weavelistOf (now (input .entry))) ≡ left r (now (out .exit)) ⌝ }
+    ensures { λ r. ⌜ written (length (now (out .entry))) (weavelistOf (now (input .entry))) ≡ sheet r (now (out .exit)) ⌝ }
 {
     if input.len() > MAX_INPUT {
         return listing(Lowered::Refused(Refusal::TooLong), &[], &[], &[], &[], out);
@@ -101,7 +101,7 @@ pub struct InputListed {
 // Reads what fits the input's buffer, lists it on the page and writes the list. The page and the answer are determined by the bytes read; which these are, and that
 // the list is written out, no contract can say. What the input's buffer then holds are bytes, which the proof of `weavelist` needs.
 fn list_input(input: &mut [u8], page: &mut [u8]) -> InputListed
-    ensures { λ r. ⌜ (written (length (now (page .entry))) (weavelistOf (take (r .read) (now (input .exit)))) ≡ left (r .listed) (now (page .exit))) × Bytes (now (input .exit)) × (r .read ≤ length (now (input .exit))) ⌝ }
+    ensures { λ r. ⌜ (written (length (now (page .entry))) (weavelistOf (take (r .read) (now (input .exit)))) ≡ sheet (r .listed) (now (page .exit))) × Bytes (now (input .exit)) × (r .read ≤ length (now (input .exit))) ⌝ }
 {
     let n = io::read_full(0, input);
     let listed = list_bytes(&input[..n], page);
@@ -117,7 +117,7 @@ fn list_input(input: &mut [u8], page: &mut [u8]) -> InputListed
 // The program: its input's buffer has one byte more than is allowed. No list is longer than its page (`fits`, specs/Fits.antt), so the answer is never `Short`
 // and the list stands on the page whole.
 pub fn weavelist(input: &mut [u8; 65537], page: &mut [u8; 589824]) -> InputListed
-    ensures { λ r. ⌜ (whole (weavelistOf (take (r .read) (now (input .exit)))) ≡ left (r .listed) (now (page .exit))) × (r .read ≤ 65537) ⌝ }
+    ensures { λ r. ⌜ (whole (weavelistOf (take (r .read) (now (input .exit)))) ≡ sheet (r .listed) (now (page .exit))) × (r .read ≤ 65537) ⌝ }
 {
     list_input(input, page)
 }

@@ -14,7 +14,7 @@ use Rattle.model.specs.Values.{Value, truth, first, fit}
 use Rattle.model.specs.Jumps.{word}
 use Rattle.model.specs.Running.{Program, Machine, goes}
 use Rattle.labelled.specs.Code.{PW, setw, lbs, mark, nilw, callw, selfw, cbase, pwidth}
-use Rattle.labelled.specs.Machine.{Hist, Regs, Setting, upd, Out, at, exit, stuck, eval, evalC, evalS, onto, wrote, took}
+use Rattle.labelled.specs.Machine.{Hist, Regs, Setting, upd, Outcome, at, exit, stuck, eval, evalC, evalS, onto, wrote, took}
 use Rattle.threads.specs.Coded.{Codes}
 use Rattle.running.specs.Registers.{Holds, holds-set, holds-nils}
 use Rattle.running.specs.Reaching.{does, Reach, reach-word}
@@ -29,7 +29,7 @@ module _ (Γ : Setting) (p : Program) (s : Machine) where
     pub holds : Holds (p .frame) registers R
     pub reach : Reach (Γ .world) p (Γ .varargs) s (state n registers none h)
 
-  abbrev pub Arrives : Out → Type 0
+  abbrev pub Arrives : Outcome → Type 0
   Arrives (at n R h) = At n R h
   Arrives (exit ℓ b R h) = Unit {0}
   Arrives stuck = Unit {0}

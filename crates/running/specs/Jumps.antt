@@ -13,7 +13,7 @@ use Rattle.instructions.specs.Word.{opcodeOf, aOf, bOf, cOf, sbxOf, abcOf}
 use Rattle.instructions.specs.Laws.{opcode-a-bx}
 use Rattle.opcodes.specs.declared.OpCode.the-variants as op
 use Rattle.constants.specs.Entry.{Constant}
-use Rattle.model.specs.Values.{Value, is-true, Kind, global-read, index-read, call, equal, less, less-or-equal, length-of, concatenation, arithmetic, World, ask-truth}
+use Rattle.model.specs.Values.{Value, is-true, StepKind, global-read, index-read, call, equal, less, less-or-equal, length-of, concatenation, arithmetic, World, ask-truth}
 use Rattle.model.specs.Jumps.{word}
 use Rattle.model.specs.Conditions.{bit}
 use Rattle.model.specs.Running as run
@@ -72,10 +72,10 @@ module _ (Γ : Setting) (p : Program) (t : List Constant) (lists : Lists p t) (m
       rw (i .is-op) (reg-law W p VS rs R holds n l h (bOf x) b (λ v. elim (agrees (is-true v) (run.flag (cOf x))) [ true ↦ run.to W p VS m (aOf x) v | false ↦ run.skip-if true m ]) (i .is-b) lb
       ∙ chosen (agrees (is-true (R b)) (run.flag (cOf x))) (run.to W p VS m (aOf x) (R b)) (goes (state (n + 2) rs l h)) ∙ rw (i .is-a, i .is-c, flag-bit k) refl)
 
-  abbrev comparing : Kind → After
+  abbrev comparing : StepKind → After
   comparing o = run.rk-value W p VS m (bOf x) λ u. run.rk-value W p VS m (cOf x) λ v. run.compared W p VS m (run.flag (aOf x)) (ask-truth W o (u ∷ v ∷ []) h)
 
-  carry-compare : (o : Kind) → Compares o → run.execute W p VS (comparison o) x m ≡ comparing o
+  carry-compare : (o : StepKind) → Compares o → run.execute W p VS (comparison o) x m ≡ comparing o
   unfolding run.execute
   carry-compare global-read c = absurd c
   carry-compare index-read c = absurd c
@@ -87,7 +87,7 @@ module _ (Γ : Setting) (p : Program) (t : List Constant) (lists : Lists p t) (m
   carry-compare concatenation c = absurd c
   carry-compare (arithmetic o) c = absurd c
 
-  pub compare-law : (o : Kind) (k : Bool) (i j : Rk) (u v : ℕ) → Compares o → CodesRk t (p .frame) i u → CodesRk t (p .frame) j v → x ≡ abcOf (comparison o) (bit k) u v →
+  pub compare-law : (o : StepKind) (k : Bool) (i j : Rk) (u v : ℕ) → Compares o → CodesRk t (p .frame) i u → CodesRk t (p .frame) j v → x ≡ abcOf (comparison o) (bit k) u v →
       carries ≡ pick (agrees (compared Γ o i j R h .gives) k) (goes (state (n + 1) rs l (compared Γ o i j R h .steps))) (goes (state (n + 2) rs l (compared Γ o i j R h .steps)))
   compare-law o k i j u v c ci cj e =
       let f : Abc x (comparison o) (bit k) u v = abc e (omega (nat, bit-small k)) (rk-small t (p .frame) most i u ci) (rk-small t (p .frame) most j v cj) in

@@ -17,7 +17,7 @@ use Rattle.model.specs.Jumps.{word}
 use Rattle.model.specs.Running as run
 use Rattle.model.specs.Running.{Program, Machine, ends, returned}
 use Rattle.labelled.specs.Code.{same, same-true, Instr, width, Code, size}
-use Rattle.labelled.specs.Machine.{Hist, Regs, Setting, span, Out, at, exit, stuck, stepAt, step, exec}
+use Rattle.labelled.specs.Machine.{Hist, Regs, Setting, span, Outcome, at, exit, stuck, stepAt, step, exec}
 use Rattle.labelled.specs.Locals.{settingOf}
 use Rattle.threads.specs.Encoding.{EncI, Enc}
 use Rattle.threads.specs.Coded.{LowI, Low, coded}
@@ -30,7 +30,7 @@ use Rattle.running.specs.Jumps.{perform-arrives}
 
 module _ (Γ : Setting) (p : Program) (s : Machine) (t : List Constant) (lists : Lists p t) (most : p .frame ≤ maxStack) where
   -- one instruction, from any outcome
-  step-arrives : (n : ℕ) (i : Instr) (o : Out) → EncI (coded t (p .frame)) (p .words) n i → LowI (p .frame) i → width i + n ≤ length (p .words) → Arrives Γ p s o → Arrives Γ p s (step Γ n i o)
+  step-arrives : (n : ℕ) (i : Instr) (o : Outcome) → EncI (coded t (p .frame)) (p .words) n i → LowI (p .frame) i → width i + n ≤ length (p .words) → Arrives Γ p s o → Arrives Γ p s (step Γ n i o)
   step-arrives n i (at q R h) e b l d = go (same q n) refl
     where
       go : (z : Bool) → same q n ≡ z → Arrives Γ p s (stepAt Γ z n i q R h)

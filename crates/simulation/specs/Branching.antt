@@ -14,7 +14,7 @@ use Rattle.opcodes.specs.declared.OpCode.{OpCode}
 use Rattle.opcodes.specs.declared.OpCode.the-variants as op
 use Rattle.folding.specs.declared.Arith.the-variants as ar
 use Rattle.constants.specs.Entry.{Constant, nil, truth, number, text}
-use Rattle.model.specs.Values.{Kind, nil as vnil, truth as vtruth, number as vnumber, text as vtext, other}
+use Rattle.model.specs.Values.{StepKind, nil as vnil, truth as vtruth, number as vnumber, text as vtext, other}
 use Rattle.model.specs.Running.{same as agrees}
 use Rattle.model.specs.declared.ExprKind.{ExprKind}
 use Rattle.model.specs.declared.ExprKind.the-variants as kind
@@ -269,7 +269,7 @@ module _ (Γ : Env) (s : State) (m : Buffers) (H : ℕ → ℕ) (e : ExprContext
   on-word vfst c w h = on-other vfst c refl w h
 
   -- a comparison, whose jump stands already
-  standing : (a : Kind) (k c : Bool) (x y : Rk) (j : ℕ) (m′ : Buffers) → σ .nxt ≤ j → H j ≡ suc (e .info) → H 0 ≡ 0 → e .info < maxWords → Sim Γ s m′ H (br (cmp a k x y) (lbl j) ∷ σ .code) (σ .free) (σ .tab) →
+  standing : (a : StepKind) (k c : Bool) (x y : Rk) (j : ℕ) (m′ : Buffers) → σ .nxt ≤ j → H j ≡ suc (e .info) → H 0 ≡ 0 → e .info < maxWords → Sim Γ s m′ H (br (cmp a k x y) (lbl j) ∷ σ .code) (σ .free) (σ .tab) →
       Done (push (br (cmp a k x y) (lbl ℓ)) σ) (jump-list (e .info)) s m′
   unfolding push
   standing a k c x y j m′ n hj h0 l q = jumped (record {
@@ -287,7 +287,7 @@ module _ (Γ : Env) (s : State) (m : Buffers) (H : ℕ → ℕ) (e : ExprContext
     falses = ef;
   })
 
-  on-comparison : (a : Kind) (d c : Bool) (x y : Rk) → Is4 Γ s m H e σ (kj a d x y) → Ends (jump-if e c kind.Jmp s m) (λ list s′ m′. Done (goJump c (kj a d x y) ℓ σ) list s′ m′)
+  on-comparison : (a : StepKind) (d c : Bool) (x y : Rk) → Is4 Γ s m H e σ (kj a d x y) → Ends (jump-if e c kind.Jmp s m) (λ list s′ m′. Done (goJump c (kj a d x y) ℓ σ) list s′ m′)
   unfolding jump-if-false jump-if-true goJump
   on-comparison a d c x y h = go c
     where

@@ -13,7 +13,7 @@ use Rattle.constants.specs.Table.{find}
 use Rattle.constants.specs.Distinct.{Short}
 use Rattle.constants.specs.declared.Val.{Val}
 use Rattle.constants.specs.declared.Val.the-variants as val
-use Rattle.model.specs.Values.{Kind, valueOf}
+use Rattle.model.specs.Values.{StepKind, valueOf}
 use Rattle.model.specs.declared.ExprKind.the-variants as kind
 use Rattle.model.specs.declared.ExprContext.{ExprContext}
 use Rattle.model.specs.declared.State.{State}
@@ -119,7 +119,7 @@ abbrev sideR : Bool → Rk → Rk → Rk
 sideR true x y = y
 sideR false x y = x
 
-kcmp-is : (swapped : Bool) (o : Kind) (c : Bool) (x y : Rk) → kcmp swapped o c x y ≡ kj o c (sideR swapped x y) (sideR swapped y x)
+kcmp-is : (swapped : Bool) (o : StepKind) (c : Bool) (x y : Rk) → kcmp swapped o c x y ≡ kj o c (sideR swapped x y) (sideR swapped y x)
 kcmp-is true o c x y = refl
 kcmp-is false o c x y = refl
 
@@ -127,7 +127,7 @@ side-codes : (swapped : Bool) (s : State) (b c : ExprContext) (σ : St) (x y : R
 side-codes true s b c σ x y p q = operand-codes s c σ y q
 side-codes false s b c σ x y p q = operand-codes s b σ x p
 
-module _ (Γ : Env) (o : Kind) (cmps : Compares o) (cond swapped : Bool) (f : ℕ) (pos : 1 ≤ Γ .n) where
+module _ (Γ : Env) (o : StepKind) (cmps : Compares o) (cond swapped : Bool) (f : ℕ) (pos : 1 ≤ Γ .n) where
   compared : (s : State) (m : Buffers) (b c : ExprContext) (σ : St) (x y : Rk) → On (Γ .n) σ → Both Γ s m b c σ x y f → Ends (emit-comp (comparison o) cond swapped b c s m) (λ e′ s′ m′. SimD Γ s′ m′ e′ (fresh (kd (kcmp swapped o cond x y)) f (flush σ)))
   unfolding emit-comp flush fresh
   compared s m b c σ x y on w = rw (w .freed, then-done {A = Unit {0}} tt (with-free f s) m _, kcmp-is swapped o cond x y)
@@ -207,7 +207,7 @@ sound-add c p h = record { own = h .own; new = record { on = record { up = h .ne
 -- ---- `code_comp`
 
 module _ (Γ : Env) (s : State) (m : Buffers) (e₁ e₂ : ExprContext) (f g : ℕ) (n : Option ℕ) (x : RkS) (p : Pair) (h : Sound Γ g p) (d : SimD Γ s m e₂ p) (l : Left s e₁ n x (p .st)) (k : LeftTakes (Γ .active) f g n x) (la : Γ .active ≤ f) (named : (b : ℕ) → n ≡ some b → x .rkv ≡ con (valueOf (number b)))
-    (o : Kind) (cmps : Compares o) (cond swapped : Bool) where
+    (o : StepKind) (cmps : Compares o) (cond swapped : Bool) where
   abbrev F : ExprContext → ExprContext → Step ExprContext
   F = emit-comp (comparison o) cond swapped
 

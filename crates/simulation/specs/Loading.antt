@@ -18,7 +18,7 @@ use Rattle.model.specs.declared.ExprContext.{ExprContext}
 use Rattle.model.specs.declared.State.{State}
 use Rattle.model.specs.Descriptor.{with-kind, with-jumps, isKind, tagOf}
 use Rattle.constants.specs.declared.Val.the-variants as val
-use Rattle.model.specs.Values.{Value, Kind, nil as vnil, truth as vtruth, number as vnumber, text as vtext, other}
+use Rattle.model.specs.Values.{Value, StepKind, nil as vnil, truth as vtruth, number as vnumber, text as vtext, other}
 use Rattle.model.specs.Jumps.{word, jump-list, concat-jumps, linked}
 use Rattle.model.specs.Conditions.{bit}
 use Rattle.model.specs.Operators.{arithOp}
@@ -271,7 +271,7 @@ module _ (Γ : Env) (s : State) (m : Buffers) (H : ℕ → ℕ) (e : ExprContext
       now : Sim Γ s m H (pl (setw 0 x) ∷ σ .code) (σ .free) (σ .tab)
       now = h .1 .1 .1
 
-  load-jump-at : (a : Kind) (k : Bool) (x y : Rk) → Is4 Γ s m H e σ (kj a k x y) → Goal (kj a k x y)
+  load-jump-at : (a : StepKind) (k : Bool) (x y : Rk) → Is4 Γ s m H e σ (kj a k x y) → Goal (kj a k x y)
   unfolding load-kind join-jump d2r push edit size
   load-jump-at a k x y h = rw (load-is, joins, q .0) (gives _ s _ (then-done _ s _ _) (record {
     heads = setH tl (concat-jumps (H tl) (H j)) (setH j 0 H);

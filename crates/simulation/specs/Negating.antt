@@ -9,7 +9,7 @@ use lib.ListN.{length}
 use Rattle.instructions.specs.Word.{abcOf}
 use Rattle.opcodes.specs.declared.OpCode.the-variants as op
 use Rattle.constants.specs.Entry.{Constant, nil, truth, number, text}
-use Rattle.model.specs.Values.{Kind}
+use Rattle.model.specs.Values.{StepKind}
 use Rattle.model.specs.declared.ExprKind.the-variants as kind
 use Rattle.model.specs.declared.ExprContext.{ExprContext}
 use Rattle.model.specs.declared.State.{State}
@@ -55,7 +55,7 @@ module _ (Γ : Env) (s : State) (m : Buffers) (H : ℕ → ℕ) (e : ExprContext
   not-con (text x) h = gives _ s m refl (record { heads = H; is = (refl, h .1); trues = et; falses = ef })
 
   -- a comparison
-  not-jump : (a : Kind) (d : Bool) (x y : Rk) → Is4 Γ s m H e σ (kj a d x y) → Goal (kj a d x y)
+  not-jump : (a : StepKind) (d : Bool) (x y : Rk) → Is4 Γ s m H e σ (kj a d x y) → Goal (kj a d x y)
   unfolding negate notS
   not-jump a d x y h =
       let q = sim-invert e (h .1 .0 ∙ omega arith) (h .1 .1 .1 .1 .1 .1) in

@@ -15,7 +15,7 @@ use Rattle.chunk.specs.declared.header.Header.{Header}
 use Rattle.constants.specs.Entry.{number}
 use Rattle.cursor.specs.declared.Text.{Text}
 use Rattle.chunk.specs.Ast.{Expr}
-use Rattle.model.specs.Values.{Kind, equal, less, less-or-equal, valueOf}
+use Rattle.model.specs.Values.{StepKind, equal, less, less-or-equal, valueOf}
 use Rattle.model.specs.declared.ExprContext.{ExprContext}
 use Rattle.model.specs.declared.State.{State}
 use Rattle.model.specs.Steps.{Buffers, Step, _>>=_}
@@ -115,7 +115,7 @@ module _ (chunk : List ℕ) (names : List Text) (f : Step ExprContext) (b : Expr
     unfolding compTwo
     two-arith o two = with-operand (code-arith o) _ (λ s₂ m₂ e₁ e₂ w y l k. sim-arith Γ₂ s₂ m₂ e₁ e₂ fr (x .st .free) n x (comp chunk names b (x .st)) w y l k (h .locals) o two)
 
-    pub two-comp : (o : Kind) → Compares o → (cond swapped : Bool) → Ends ((operand e >>= (λ e₁. f >>= (λ e₂. code-comp (comparison o) cond swapped e₁ e₂))) s m) (λ e′ s′ m′. SimD Γ₂ s′ m′ e′ (compTwo (comparing o cond swapped) fr (dv p) (comp chunk names b)))
+    pub two-comp : (o : StepKind) → Compares o → (cond swapped : Bool) → Ends ((operand e >>= (λ e₁. f >>= (λ e₂. code-comp (comparison o) cond swapped e₁ e₂))) s m) (λ e′ s′ m′. SimD Γ₂ s′ m′ e′ (compTwo (comparing o cond swapped) fr (dv p) (comp chunk names b)))
     unfolding compTwo
     two-comp o cmps cond swapped = with-operand (code-comp (comparison o) cond swapped) _ (λ s₂ m₂ e₁ e₂ w y l k. sim-comp Γ₂ s₂ m₂ e₁ e₂ fr (x .st .free) n x (comp chunk names b (x .st)) w y l k (h .locals) (left-named n) o cmps cond swapped)
 

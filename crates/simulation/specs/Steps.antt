@@ -10,7 +10,7 @@ use lib.ListN.{length, set}
 use Rattle.instructions.specs.Word.{abcOf}
 use Rattle.opcodes.specs.declared.OpCode.the-variants as op
 use Rattle.constants.specs.Entry.{Constant}
-use Rattle.model.specs.Values.{Kind, truth}
+use Rattle.model.specs.Values.{StepKind, truth}
 use Rattle.model.specs.Conditions.{bit, pop, invertjump}
 use Rattle.model.specs.declared.ExprKind.the-variants.{Jmp}
 use Rattle.model.specs.declared.ExprContext.{ExprContext}
@@ -342,7 +342,7 @@ module _ {Γ : Env} {s : State} {m : Buffers} {H : ℕ → ℕ} {c : Code} {f : 
   sim-replace o h u v p l e = sim-make h (aside-refl h) (kept-code h _) (hold-replace o (h .holds) u v p e) (tt, h .low .1) (h .label) l (λ k x y. refl)
 
   -- `invertjump`
-  pub sim-invert : {o : Kind} {k : Bool} {x y : Rk} {ℓ : ℕ} (e : ExprContext) → e .info ≡ 1 + size c → (h : Sim Γ s m H (br (cmp o k x y) (lbl ℓ) ∷ c) f t) →
+  pub sim-invert : {o : StepKind} {k : Bool} {x y : Rk} {ℓ : ℕ} (e : ExprContext) → e .info ≡ 1 + size c → (h : Sim Γ s m H (br (cmp o k x y) (lbl ℓ) ∷ c) f t) →
       (invertjump e s m ≡ done tt s (with-code (inverted (m .code) (e .info)) m)) × Sim Γ s (with-code (inverted (m .code) (e .info)) m) H (br (cmp o (not k) x y) (lbl ℓ) ∷ c) f t
   sim-invert e z h = let q = hold-invert e z (h .holds) in (q .0, sim-make h (aside-refl h) (kept-code h _) (q .1) (h .low) (h .label) tt (λ k x y. refl))
 

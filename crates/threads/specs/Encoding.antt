@@ -12,7 +12,7 @@ use Rattle.instructions.specs.Word.{opcodeOf, abcOf}
 use Rattle.instructions.specs.Laws.{opcode-a-bx}
 use Rattle.opcodes.specs.declared.OpCode.{OpCode}
 use Rattle.opcodes.specs.declared.OpCode.the-variants.{Jmp, Eq, Lt, Le, Test, TestSet}
-use Rattle.model.specs.Values.{Kind, global-read, index-read, call, equal, less, less-or-equal, length-of, concatenation, arithmetic}
+use Rattle.model.specs.Values.{StepKind, global-read, index-read, call, equal, less, less-or-equal, length-of, concatenation, arithmetic}
 use Rattle.model.specs.Jumps.{word}
 use Rattle.model.specs.Conditions.{bit}
 use Rattle.labelled.specs.Code.{Rk, same, same-true, same-false, Ctrl, always, test, tset, tseta, cmp, Tgt, to, lbl, PW, Instr, pl, br, pwidth, width, Code, size}
@@ -28,7 +28,7 @@ pub jmp-no-test : (w : ℕ) → IsJ w → isTest w ≡ false
 jmp-no-test w h = rw (h .is, opcode-a-bx Jmp 0 (h .bx)) refl
 
 -- the opcode of a comparison
-abbrev pub comparison : Kind → OpCode
+abbrev pub comparison : StepKind → OpCode
 comparison global-read = Eq
 comparison index-read = Eq
 comparison call = Eq
@@ -39,7 +39,7 @@ comparison length-of = Eq
 comparison concatenation = Eq
 comparison (arithmetic o) = Eq
 
-abbrev pub Compares : Kind → Type 0
+abbrev pub Compares : StepKind → Type 0
 Compares global-read = ⊥
 Compares index-read = ⊥
 Compares call = ⊥
@@ -50,7 +50,7 @@ Compares length-of = ⊥
 Compares concatenation = ⊥
 Compares (arithmetic o) = ⊥
 
-pub comparison-tests : (o : Kind) → testMode (comparison o) ≡ true
+pub comparison-tests : (o : StepKind) → testMode (comparison o) ≡ true
 comparison-tests global-read = refl
 comparison-tests index-read = refl
 comparison-tests call = refl
@@ -61,7 +61,7 @@ comparison-tests length-of = refl
 comparison-tests concatenation = refl
 comparison-tests (arithmetic o) = refl
 
-pub comparison-keeps-none : (o : Kind) → eqb (codeOf (comparison o)) (codeOf TestSet) ≡ false
+pub comparison-keeps-none : (o : StepKind) → eqb (codeOf (comparison o)) (codeOf TestSet) ≡ false
 comparison-keeps-none global-read = refl
 comparison-keeps-none index-read = refl
 comparison-keeps-none call = refl

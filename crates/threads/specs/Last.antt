@@ -10,7 +10,7 @@ use lib.Dec.{eqb}
 use Rattle.instructions.specs.Limits.{maxWords, aSize}
 use Rattle.instructions.specs.Word.{aOf, setAOf, abcOf}
 use Rattle.instructions.specs.Laws.{a-abc, set-a-abc}
-use Rattle.model.specs.Values.{Kind}
+use Rattle.model.specs.Values.{StepKind}
 use Rattle.model.specs.Jumps.{word, get-jump-control}
 use Rattle.model.specs.Conditions.{bit}
 use Rattle.labelled.specs.Code.{Rk, same, same-ne, same-true, same-false, cmp, lbl, PW, mark, Instr, pl, br, pwidth, width, Code, size}
@@ -83,7 +83,7 @@ flip : (k : Bool) → bit (eqb (bit k % aSize) 0) ≡ bit (not k)
 flip true = refl
 flip false = refl
 
-pub rep-invert : {K : Coding} {cap : ℕ} {ws : List ℕ} {H : ℕ → ℕ} {c : Code} {o : Kind} {k : Bool} {x y : Rk} {ℓ : ℕ} → Rep K cap ws H (br (cmp o k x y) (lbl ℓ) ∷ c) →
+pub rep-invert : {K : Coding} {cap : ℕ} {ws : List ℕ} {H : ℕ → ℕ} {c : Code} {o : StepKind} {k : Bool} {x y : Rk} {ℓ : ℕ} → Rep K cap ws H (br (cmp o k x y) (lbl ℓ) ∷ c) →
     Rep K cap (inverted ws (1 + size c)) H (br (cmp o (not k) x y) (lbl ℓ) ∷ c)
 unfolding size look
 rep-invert {K = K} {ws = ws} {c = c} {o = o} {k = k} {x = x} {y = y} {ℓ = ℓ} r = rw at-c (rep-last us (br (cmp o k x y) (lbl ℓ)) (br (cmp o (not k) x y) (lbl ℓ)) (length-set ws (size c) v) (λ q z. word-other ws (size c) q v z)

@@ -13,7 +13,7 @@ use Rattle.model.specs.declared.State.{State}
 use Rattle.model.specs.Steps.{Buffers, done, Step, andThen, _>>_}
 use Rattle.model.specs.Jumps.{word, concat-jumps, linked, remove-values, patch-list-aux}
 use Rattle.model.specs.Emission.{with-pc, with-jpc, with-label, discharge-jpc, emit-at, emit, concat, emit-jump, patch-to-here, get-label}
-use Rattle.model.specs.Values.{Kind}
+use Rattle.model.specs.Values.{StepKind}
 use Rattle.model.specs.declared.ExprContext.{ExprContext}
 use Rattle.model.specs.Conditions.{bit, pop, invertjump}
 use Rattle.labelled.specs.Code.{Rk, same, same-refl, same-ne, same-true, Ctrl, always, test, cmp, lbl, PW, mark, pl, br, pwidth, Code, size, land, re, edit}
@@ -300,7 +300,7 @@ module _ {K : Coding} {cap : ℕ} {s : State} {m : Buffers} {H : ℕ → ℕ} {c
       inside a = let y : s .pc < length us = rw words-are at a in omega (arith, at-end)
 
 -- `invertjump`
-pub hold-invert : {K : Coding} {cap : ℕ} {s : State} {m : Buffers} {H : ℕ → ℕ} {c : Code} {o : Kind} {k : Bool} {x y : Rk} {ℓ : ℕ} (e : ExprContext) → e .info ≡ 1 + size c →
+pub hold-invert : {K : Coding} {cap : ℕ} {s : State} {m : Buffers} {H : ℕ → ℕ} {c : Code} {o : StepKind} {k : Bool} {x y : Rk} {ℓ : ℕ} (e : ExprContext) → e .info ≡ 1 + size c →
     Holds K cap s m H (br (cmp o k x y) (lbl ℓ) ∷ c) →
     (invertjump e s m ≡ done tt s (with-code (inverted (m .code) (e .info)) m)) × Holds K cap s (with-code (inverted (m .code) (e .info)) m) H (br (cmp o (not k) x y) (lbl ℓ) ∷ c)
 unfolding size

@@ -12,7 +12,7 @@ use Rattle.cursor.specs.declared.Text.{Text}
 use Rattle.cursor.specs.declared.TextRead.the-variants as text
 use Rattle.chunk.specs.Headers.{Names, names, missing, before, namesAt}
 use Rattle.chunk.specs.Form.{namesOf}
-use Rattle.model.specs.Values.{later}
+use Rattle.model.specs.Values.{last-wins}
 use Rattle.model.specs.Expressions.{search-local}
 use Rattle.variables.specs.Found.{newest}
 
@@ -21,19 +21,19 @@ abbrev decode : ℕ → Option ℕ
 decode zero = none
 decode (suc r) = some r
 
-later-none : (o : Option ℕ) → later o none ≡ o
-later-none (some r) = refl
-later-none none = refl
+wins-none : (o : Option ℕ) → last-wins o none ≡ o
+wins-none (some r) = refl
+wins-none none = refl
 
 module _ (chunk name : List ℕ) where
   -- the names from register r on, after `last`
   abbrev pub sought : Names → ℕ → ℕ → Option ℕ
-  sought (names ts at) r last = later (search-local chunk name ts r) (decode last)
+  sought (names ts at) r last = last-wins (search-local chunk name ts r) (decode last)
   sought missing r last = none
 
   pub sought-all : (n : Names) → search-local chunk name (namesOf n) 0 ≡ sought n 0 0
   unfolding search-local
-  sought-all (names ts at) = sym (later-none (search-local chunk name ts 0))
+  sought-all (names ts at) = sym (wins-none (search-local chunk name ts 0))
   sought-all missing = refl
 
   one-more : (t : Text) (n : Names) (r last : ℕ) → sought (before t n) r last ≡ sought n (suc r) (newest chunk name t r last)
@@ -42,7 +42,7 @@ module _ (chunk name : List ℕ) where
   one-more t (names ts at) r last = go (search-local chunk name ts (suc r)) (sameBytes (bytesOf chunk t) name)
     where
       go : (o : Option ℕ) (b : Bool)
-          → later (later o (elim b [ true ↦ some r | false ↦ none ])) (decode last) ≡ later o (decode (elim b [ true ↦ r + 1 | false ↦ last ]))
+          → last-wins (last-wins o (elim b [ true ↦ some r | false ↦ none ])) (decode last) ≡ last-wins o (decode (elim b [ true ↦ r + 1 | false ↦ last ]))
       go (some q) b = refl
       go none true = rw add-one
       go none false = refl

@@ -6,11 +6,11 @@ use borrow.Author.Needs.{needs}
 use Rattle.operators.proofs.exp2rk_again.Statement.{statement}
 use Rattle.operators.proofs.exp2rk_again.Tie as tie
 
-in-register-requires : tie.Need-in-register-requires
-in-register-requires c κs = search needs
+plain-register-requires : tie.Need-plain-register-requires
+plain-register-requires c κs = search needs
 
 returns : tie.Need-returns
-returns c = still-operand _ _ _ ((c .before .in-register .ensures) ∙ (c .if1 .taken))
+returns c = still-operand _ _ _ ((c .before .plain-register .ensures) ∙ (c .if1 .taken))
 
 exp2rk-requires : tie.Need-exp2rk-requires
 exp2rk-requires c κs = search needs
@@ -49,7 +49,7 @@ pub exp2rk-again-spec : {M : Type 1} → statement M
 exp2rk-again-spec =
     tie.close
     (tie.spec
-    in-register-requires
+    plain-register-requires
     returns
     exp2rk-requires
     same-length

@@ -7,7 +7,7 @@ use borrow.Author.Needs.{needs}
 use native.Mathlib.Omega.{arith}
 use Rattle.chunk.specs.Ast.{spansOf}
 use Rattle.chunk.specs.Form.{exprAt, exprsAt}
-use Rattle.chunk.specs.Walks.{Walked, Inside}
+use Rattle.chunk.specs.Walks.{Walked, Within}
 use Rattle.chunk.specs.declared.form.WalkEnd.{WalkEnd}
 use Rattle.chunk.proofs.Walking.{more-walked, cut-walked, none-walked, expr-walked, unread-walked, deep-walked}
 use Rattle.chunk.proofs.Insides.{node-in}
@@ -223,7 +223,7 @@ walk-expr-returns-4 t c =
 abbrev walk-exprs-Inv-loop : walk-exprs-lts.InvT-loop
 walk-exprs-Inv-loop chunk scratch₀ varargs left count todo₀ walk₀ scratch todo walk =
     (length scratch ≡ length scratch₀)
-    × (Inside chunk walk
+    × (Within chunk walk
     × ((R : WalkEnd) (S : List ℕ) → Walked spansOf (exprsAt (exprAt chunk varargs left) todo (walk .at) (walk .line)) (walk .nodes) scratch R S
     → Walked spansOf (exprsAt (exprAt chunk varargs left) count (walk₀ .at) (walk₀ .line)) (walk₀ .nodes) scratch₀ R S))
 
