@@ -63,14 +63,14 @@ fn rust(drive: Drive, c: &chunk::Chunk) -> Answer {
 fn zeros<T: PartialEq + Default>(s: &[T]) -> bool { let z = T::default(); s.iter().all(|x| *x == z) }
 
 /// Every lent buffer is zeros.
-fn all_zeros(b: &Buffers, z: &Sizes) -> bool {
+pub fn all_zeros(b: &Buffers, z: &Sizes) -> bool {
     zeros(&b.code[..z.code]) && zeros(&b.lines[..z.lines]) && zeros(&b.kinds[..z.kinds]) && zeros(&b.values[..z.values]) && zeros(&b.pool[..z.pool]) && zeros(&b.scratch[..z.scratch]) && zeros(&b.counts[..z.counts])
 }
 
 fn filled<T: PartialEq + Default>(s: &[T], list: &[T]) -> bool { list.len() <= s.len() && s[..list.len()] == *list && zeros(&s[list.len()..]) }
 
 /// Every lent buffer is the result and then zeros.
-fn is_result(b: &Buffers, z: &Sizes, o: &Out, places: &[u32]) -> Result<(), &'static str> {
+pub fn is_result(b: &Buffers, z: &Sizes, o: &Out, places: &[u32]) -> Result<(), &'static str> {
     let counts = [o.code.len() as u64, o.consts.len() as u64, o.pool.len() as u64, u64::from(o.frame)];
     let kinds: Vec<u8> = o.consts.iter().map(|c| c.0).collect();
     let values: Vec<u64> = o.consts.iter().map(|c| c.1).collect();
@@ -190,9 +190,9 @@ fn smaller(bytes: &[u8], b: &mut Buffers, t: &mut Tally, r: &mut Rng, o: &Out, p
     Ok(())
 }
 
-fn buffers() -> Buffers { Buffers::new(&NONE) }
+pub fn buffers() -> Buffers { Buffers::new(&NONE) }
 
-fn report(bytes: &[u8], what: &str, of: &str) {
+pub fn report(bytes: &[u8], what: &str, of: &str) {
     let h = if bytes.len() <= 20_000 { hex(bytes) } else { format!("{} bytes", bytes.len()) };
     println!("MISMATCH {of}: {what}: {h}");
 }

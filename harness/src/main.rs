@@ -7,6 +7,7 @@ mod compare;
 mod form;
 mod generators;
 mod ours;
+mod second;
 
 fn unhex(s: &str) -> Vec<u8> {
     let d: Vec<u8> = s.chars().filter(|c| !c.is_whitespace()).map(|c| c.to_digit(16).expect("hex") as u8).collect();
@@ -29,10 +30,14 @@ fn run() -> i32 {
         ["compare"] => compare::run(1, 0),
         ["compare", share] => compare::run(share.parse().unwrap(), 0),
         ["compare", share, round] => compare::run(share.parse().unwrap(), round.parse().unwrap()),
+        ["second"] => second::generated(1, 0),
+        ["second", share] => second::generated(share.parse().unwrap(), 0),
+        ["second", share, round] => second::generated(share.parse().unwrap(), round.parse().unwrap()),
+        ["shapes", nodes] => second::shapes(nodes.parse().unwrap()),
         ["list", file] => compare::listed(&chunks_of(file)),
         ["pools", file] => compare::pools(&chunks_of(file)),
         ["chunk", hex] => compare::listed(&[unhex(hex)]),
-        _ => { eprintln!("harness bench [NODES-SHAPE-CONSTANTS] | clearing | profile ours|rust NODES SHAPE CONSTANTS TIMES | compare [SHARE [ROUND]] | list FILE | pools FILE | chunk HEX"); 2 }
+        _ => { eprintln!("harness bench [NODES-SHAPE-CONSTANTS] | clearing | profile ours|rust NODES SHAPE CONSTANTS TIMES | compare [SHARE [ROUND]] | second [SHARE [ROUND]] | shapes NODES | list FILE | pools FILE | chunk HEX"); 2 }
     }
 }
 
