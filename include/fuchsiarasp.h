@@ -4,7 +4,8 @@
  * The archive libcontroller.a (`rt staticlib controller`) defines fuchsiarasp_lower and needs only memset and memcpy beside it.
  * It is for x86-64 Linux. It allocates nothing, keeps nothing between calls and reads and writes only what it is lent and its stack, so
  * calls from several threads with buffers of their own don't meet. A call takes up to about 520 kB of stack (measured: calls nested
- * as arguments to nesting 200; other chunks took less): have 1 MB.
+ * as arguments to nesting 200; other chunks took less): have 1 MB. Its time grows with nodes times constants: usual chunks take some 50 to 100
+ * nanoseconds a node, one of 919,025 bytes with 135,000 different texts took 10 seconds.
  */
 #ifndef FUCHSIARASP_H
 #define FUCHSIARASP_H
@@ -48,13 +49,16 @@ enum fuchsiarasp_count {
  *
  *   chunk    the chunk, which is only read
  *   code     words of 32 bits, the last a Return: opcode (Lua 5.1's numbers) bits 0-5, A bits 6-13, C bits 14-22, B bits 23-31; Bx is bits 14-31,
- *            sBx is Bx minus 131,071
+ *            sBx is Bx minus 131,071. An operand of arithmetic, comparisons and keys (RK) is a register below 256, else the constant RK minus 256
  *   lines    the line of each word
  *   kinds    the kind of each constant: 0 nil, 1 false, 2 true, 3 number, 4 text
  *   values   the value of each constant: 0 for nil and truth values, the bits of the double, or a text's start in the pool * 65,536 + its length
  *   pool     the bytes of the texts
  *   scratch  the place of each node's kind byte in the chunk, in reading order
  *   counts   words, constants, bytes of text, and registers (the frame), in this order: as many of the four as fit
+ *
+ * Before the words are run, the locals stand in registers 0 and up, in the order of their names, and every other register below the frame holds nil:
+ * a nil at word 0 is not emitted. For such runs it is proved that they return what the formulas mean.
  *
  * Each buffer is passed as a pointer and the number of its elements (not bytes); no length has to agree with another.
  *
@@ -63,7 +67,9 @@ enum fuchsiarasp_count {
  *   - no two buffers overlap, and the chunk overlaps none
  *
  * Lengths beyond which nothing changes: 131,071 for code and lines, 262,144 for kinds and values, the chunk's length for the pool,
- * the number of nodes (at most 524,287) for the scratch, 4 for counts.
+ * the number of nodes (at most 524,287) for the scratch, 4 for counts. A node has at least two bytes, so chunk_len / 2 places of scratch suffice.
+ * Not proved, but so on every chunk of our comparisons (docs/DIFFERENCES.md): no more than 8 words for each node and one, and no more constants than
+ * nodes.
  */
 uint32_t fuchsiarasp_lower(
     const uint8_t *chunk, size_t chunk_len,

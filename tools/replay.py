@@ -1,7 +1,7 @@
 #!/usr/bin/env python3
 # replay.py VECTORS DIR POOLS: writes DIR/stdin and DIR/stdout of the program vectors_test from what the unchanged Rust gave, and from nothing else.
 # VECTORS: the oracle's list of chunks. POOLS: the bytes of their pools, a line of hex for each chunk in the list's order, empty if there are none; the
-# oracle doesn't print them, and the harness writes them from the unchanged Rust (in harness/: cargo run --profile checked -- pools POOLS).
+# oracle doesn't print them, and the harness writes them from the unchanged Rust (in harness/: cargo run --profile checked -- pools VECTORS > POOLS).
 # stdin: each chunk, behind its length in four bytes, the lowest first. stdout: the list's own lines but for remarks, `case` and `hex`; before each
 # `end` the pool, and how many nodes the chunk has, counted here by document 01's form. Behind the counts there must be zeros.
 import sys,struct

@@ -1,4 +1,4 @@
-//! Generators of chunks. Each makes its i-th chunk of a round from a seed of its own, so that every run of a round makes the same chunks.
+//! Generators of chunks. Each makes its i-th chunk of a round from a seed of its own, so that every run of a round makes the same chunks (too-long: from the one before).
 use crate::chunks::{ADD, AND, EQ, LT, NEG, NOT, OR, POW, Rng, Writer};
 
 const ALL: &[u8] = &[0, 1, 2, 3, 4, 5, 6, 7, 8, 9, 10, 11, 12, 13, 14];

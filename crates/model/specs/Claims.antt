@@ -59,7 +59,7 @@ pub data Due (z : Sizes) (chunk : List ℕ) (x : Refusal) : Type 0 where
   by-scratch : (c : Chunk) → formOf chunk ≡ formed c → z .scratch < length (placesOf (spansOf (c .formulas))) → x ≡ refusal.Scratch → Due z chunk x
   by-lowering : (c : Chunk) → formOf chunk ≡ formed c → length (placesOf (spansOf (c .formulas))) ≤ z .scratch → 10 ≤ numberOf x → Due z chunk x
 
--- a refusal leaves only zeros, and is due
+-- a refusal leaves only zeros, and comes from the stage that `Due` names; which of 10 to 13 it is, and where, the equation with `lowered` tells
 abbrev pub Padded : Sizes → List ℕ → Lowered → Buffers → List ℕ → Type 0
 Padded z chunk (answer.Done k) m scratch = Left z chunk k m scratch
 Padded z chunk (answer.Refused x) m scratch = (m ≡ cleared z) × ((scratch ≡ zeros (z .scratch)) × Due z chunk x)

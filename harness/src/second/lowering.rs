@@ -1,31 +1,11 @@
 //! The lowering once more: rilua's codegen.rs with document 01's differences 1 to 4 and its limits, so that refusals 9 to 13 are given in their order too.
 use super::nodes::Chunk;
+use super::opcodes::*;
 use super::reading::fold;
 use crate::ours::Sizes;
 use rilua::Out;
 use std::collections::HashMap;
 
-const LOADK: u32 = 1;
-const LOADBOOL: u32 = 2;
-const LOADNIL: u32 = 3;
-const GETGLOBAL: u32 = 5;
-const GETTABLE: u32 = 6;
-const SELF: u32 = 11;
-const ADD: u32 = 12;
-const POW: u32 = 17;
-const UNM: u32 = 18;
-const NOT: u32 = 19;
-const LEN: u32 = 20;
-const CONCAT: u32 = 21;
-const JMP: u32 = 22;
-const EQ: u32 = 23;
-const LT: u32 = 24;
-const LE: u32 = 25;
-const TEST: u32 = 26;
-const TESTSET: u32 = 27;
-const CALL: u32 = 28;
-const RETURN: u32 = 30;
-const VARARG: u32 = 37;
 const NO_REG: u32 = 255;
 const NO_JUMP: i32 = -1;
 
@@ -194,7 +174,7 @@ impl<'a> Compiler<'a> {
             Kind::K => { self.emit(abx(LOADK, reg, e.info as u32), line)?; }
             Kind::KNum => { let k = self.constant((3, e.number, &[]))?; self.emit(abx(LOADK, reg, k), line)?; }
             Kind::Relocable => { let w = self.word(e.info); self.change(e.info, set_a(w, reg)) }
-            Kind::NonReloc => if reg != e.info as u32 { self.emit(abc(0, reg, e.info as u32, 0), line)?; },
+            Kind::NonReloc => if reg != e.info as u32 { self.emit(abc(MOVE, reg, e.info as u32, 0), line)?; },
             _ => return Ok(()),
         }
         *e = Expr { info: reg as i32, kind: Kind::NonReloc, ..*e };
@@ -315,7 +295,7 @@ impl<'a> Compiler<'a> {
     // ---- operators
     fn code_arith(&mut self, o: u32, e1: &mut Expr, e2: &mut Expr, line: u32) -> Answer<()> {
         // difference 3: ^ isn't folded
-        if e1.is_numeral() && e2.is_numeral() && o != POW && let Some(n) = fold(o as u8, e1.number, e2.number) { e1.number = n; return Ok(()); }
+        if e1.is_numeral() && e2.is_numeral() && o != POW && let Some(n) = fold(o, e1.number, e2.number) { e1.number = n; return Ok(()); }
         let (b, c) = if o == UNM || o == LEN { (self.exp2anyreg(e1)?, 0) } else { let c = self.exp2rk(e2)?; (self.exp2rk(e1)?, c) };
         self.free_both(e1, e2);
         *e1 = Expr { info: self.emit(abc(o, 0, b, c), line)?, kind: Kind::Relocable, ..*e1 };

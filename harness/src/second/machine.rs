@@ -1,4 +1,5 @@
 //! The machine that runs words, and what makes a run wrong: a register outside the frame, a constant that isn't listed, a jump that doesn't go on to a later word.
+use super::opcodes::*;
 use super::reading::{Comparison, Outside, Step, Value, of_truth, truth};
 
 pub struct Program { pub words: Vec<u32>, pub constants: Vec<Value>, pub frame: usize }
@@ -39,44 +40,44 @@ pub fn run(program: &Program, locals: &[Value], varargs: &[Value], outside: &mut
         let (op, a, c, b, bx) = (w & 63, w >> 6 & 255, w >> 14 & 511, w >> 23, w >> 14);
         let mut next = m.at as i64 + 1;
         match op {
-            0 => { let v = m.get(b)?; m.set(a, v)? }
-            1 => { let v = m.constant(bx)?; m.set(a, v)? }
-            2 => { m.set(a, of_truth(b != 0))?; next += i64::from(c != 0) }
-            3 => {
+            MOVE => { let v = m.get(b)?; m.set(a, v)? }
+            LOADK => { let v = m.constant(bx)?; m.set(a, v)? }
+            LOADBOOL => { m.set(a, of_truth(b != 0))?; next += i64::from(c != 0) }
+            LOADNIL => {
                 if b < a { return m.wrong("LoadNil of none".into()); }
                 for i in a..=b { m.set(i, Value::Nil)? }
             }
-            5 => {
+            GETGLOBAL => {
                 let name = m.constant(bx)?;
                 if !matches!(name, Value::Text(_)) { return m.wrong("a global's name is no text".into()); }
                 m.set(a, outside.one(Step::Global, vec![name]))?
             }
-            6 => { let values = vec![m.get(b)?, m.rk(c)?]; m.set(a, outside.one(Step::Index, values))? }
-            11 => {
+            GETTABLE => { let values = vec![m.get(b)?, m.rk(c)?]; m.set(a, outside.one(Step::Index, values))? }
+            SELF => {
                 let object = m.get(b)?;
                 let method = outside.one(Step::Index, vec![object.clone(), m.rk(c)?]);
                 m.set(a + 1, object)?;
                 m.set(a, method)?
             }
-            12..=17 => { let values = vec![m.rk(b)?, m.rk(c)?]; m.set(a, outside.arithmetic(op as u8, values))? }
-            18 => { let values = vec![m.get(b)?]; m.set(a, outside.arithmetic(18, values))? }
-            19 => { let v = of_truth(!truth(&m.get(b)?)); m.set(a, v)? }
-            20 => { let values = vec![m.get(b)?]; m.set(a, outside.one(Step::Length, values))? }
-            21 => {
+            ADD..=POW => { let values = vec![m.rk(b)?, m.rk(c)?]; m.set(a, outside.arithmetic(op, values))? }
+            UNM => { let values = vec![m.get(b)?]; m.set(a, outside.arithmetic(UNM, values))? }
+            NOT => { let v = of_truth(!truth(&m.get(b)?)); m.set(a, v)? }
+            LEN => { let values = vec![m.get(b)?]; m.set(a, outside.one(Step::Length, values))? }
+            CONCAT => {
                 if c <= b { return m.wrong("Concat of fewer than two".into()); }
                 let mut joined = m.get(c)?;
                 for i in (b..c).rev() { joined = outside.one(Step::Concat, vec![m.get(i)?, joined]) }
                 m.set(a, joined)?
             }
-            22 => next += i64::from(bx) - 131_071,
-            23..=25 => {
-                let kind = [Comparison::Equal, Comparison::Less, Comparison::LessEqual][op as usize - 23];
+            JMP => next += i64::from(bx) - 131_071,
+            EQ..=LE => {
+                let kind = [Comparison::Equal, Comparison::Less, Comparison::LessEqual][(op - EQ) as usize];
                 let (x, y) = (m.rk(b)?, m.rk(c)?);
-                next += i64::from(u32::from(outside.truth(kind, x, y)) != a)
+                next += i64::from(u32::from(outside.compare(kind, x, y)) != a)
             }
-            26 => next += i64::from(u32::from(truth(&m.get(a)?)) != c),
-            27 => { let v = m.get(b)?; if u32::from(truth(&v)) == c { m.set(a, v)? } else { next += 1 } }
-            28 => {
+            TEST => next += i64::from(u32::from(truth(&m.get(a)?)) != c),
+            TESTSET => { let v = m.get(b)?; if u32::from(truth(&v)) == c { m.set(a, v)? } else { next += 1 } }
+            CALL => {
                 let passed = if b > 0 { a + b } else { match open { Some((made, _)) if made > a => made, _ => return m.wrong("an open Call without a list".into()) } };
                 let mut values = Vec::new();
                 for i in a..passed { values.push(m.get(i)?) }
@@ -84,14 +85,14 @@ pub fn run(program: &Program, locals: &[Value], varargs: &[Value], outside: &mut
                 let answered = outside.list(values);
                 if c > 0 { m.set_list(a, c - 1, &answered)? } else if open.is_some() { return m.wrong("a list over a list".into()); } else { open = Some((a, answered)) }
             }
-            30 => {
+            RETURN => {
                 if b == 0 || open.is_some() { return m.wrong("Return of or beside an open list".into()); }
                 let values = (0..b - 1).map(|i| m.get(a + i)).collect::<Result<_, _>>()?;
                 return Ok((values, step));
             }
-            37 if b > 0 => m.set_list(a, b - 1, varargs)?,
-            37 if open.is_some() => return m.wrong("a list over a list".into()),
-            37 => open = Some((a, varargs.to_vec())),
+            VARARG if b > 0 => m.set_list(a, b - 1, varargs)?,
+            VARARG if open.is_some() => return m.wrong("a list over a list".into()),
+            VARARG => open = Some((a, varargs.to_vec())),
             _ => return m.wrong(format!("opcode {op}")),
         }
         if next <= m.at as i64 { return m.wrong(format!("goes to word {next}")); }

@@ -1,8 +1,9 @@
-//! A second reading of document 01: form, lowering, machine and meaning. It was first written, from that paper and the Rust, by somebody who had seen neither the definitions nor the code of this repository; this is the same, shortened by one who had.
+//! A second reading of document 01: form, lowering, machine and reading. It was first written, from that paper and the Rust, by somebody who had seen neither the definitions nor the code of this repository; this is the same, shortened by one who had.
 //! Ours must agree with it in everything: answer, refusals in their order, every buffer; and the words that ours leaves, run on that machine, must return what the formulas mean, with the same outward steps in the same order.
 mod lowering;
 mod machine;
 mod nodes;
+mod opcodes;
 mod reading;
 
 use crate::chunks::{Rng, Writer};
@@ -42,7 +43,7 @@ fn program(b: &Buffers) -> Result<Program, String> {
     Ok(Program { words: b.code[..n(0)].to_vec(), constants: (0..n(1)).map(constant).collect::<Result<_, _>>()?, frame: n(3) })
 }
 
-/// Three runs against as many readings, with few, some and many answers that are false.
+/// Three runs against as many readings, with few, some and many values that are nil or false.
 fn runs(p: &Program, c: &Chunk, t: &mut Tally, r: &mut Rng) -> Result<(), String> {
     let texts: Vec<Value> = p.constants.iter().filter(|k| matches!(k, Value::Text(_))).cloned().collect();
     for falsehood in [12, 45, 80] {
@@ -90,6 +91,8 @@ fn one(bytes: &[u8], b: &mut Buffers, t: &mut Tally, r: &mut Rng, short: usize) 
     let nodes = formed.as_ref().map_or(4, |c| c.nodes.len());
     // where it is refused anyway, lengths that may or may not reach so far
     let (words, constants, pool) = whole.as_ref().map_or((nodes.min(400), nodes, 2 * nodes), |o| (o.code.len(), o.consts.len(), o.pool.len()));
+    // what include/fuchsiarasp.h says of every chunk that was compared
+    if whole.as_ref().is_some_and(|o| o.code.len() > 8 * nodes + 1 || o.consts.len() > nodes) { return Err("more than 8 words for each node and one, or more constants than nodes".into()); }
     let exact = Sizes { code: words, lines: words, kinds: constants, values: constants, pool, scratch: nodes, counts: 4 };
     let mut more = |n: usize| n + [0, 1, r.below(5), r.below(40)][r.below(4)];
     let large = Sizes { code: more(words), lines: more(words), kinds: more(constants), values: more(constants), pool: more(pool), scratch: more(nodes), counts: 4 };

@@ -1,5 +1,6 @@
 //! Values, the outside, and what a chunk's formulas mean: reading them.
 use super::nodes::Chunk;
+use super::opcodes::{ADD, DIV, MOD, MUL, SUB, UNM};
 use crate::chunks::Rng;
 use std::rc::Rc;
 
@@ -10,20 +11,16 @@ pub enum Value { Nil, False, True, Number(u64), Text(Rc<[u8]>), Other(u64) }
 pub fn truth(v: &Value) -> bool { !matches!(v, Value::Nil | Value::False) }
 pub fn of_truth(b: bool) -> Value { if b { Value::True } else { Value::False } }
 
-// Arithmetic by opcode, in the machine and here.
-pub const ADD: u8 = 12;
-pub const UNM: u8 = 18;
-
-/// The folding of two numbers (of one for `UNM`), by their bits; none where it is declined.
-pub fn fold(op: u8, a: u64, b: u64) -> Option<u64> {
+/// The folding of two numbers (of one for `UNM`) by an opcode, bits to bits; none where it is declined.
+pub fn fold(op: u32, a: u64, b: u64) -> Option<u64> {
     let (x, y) = (f64::from_bits(a), f64::from_bits(b));
     let r = match op {
-        12 => x + y,
-        13 => x - y,
-        14 => x * y,
-        15 | 16 if y == 0.0 => return None,
-        15 => x / y,
-        16 => x - (x / y).floor() * y,
+        ADD => x + y,
+        SUB => x - y,
+        MUL => x * y,
+        DIV | MOD if y == 0.0 => return None,
+        DIV => x / y,
+        MOD => x - (x / y).floor() * y,
         UNM => -x,
         _ => return None,
     };
@@ -32,7 +29,7 @@ pub fn fold(op: u8, a: u64, b: u64) -> Option<u64> {
 
 /// An outward step: its kind, its operator (of arithmetic and comparisons), its values.
 #[derive(Clone, Copy, PartialEq, Eq, Hash, Debug)]
-pub enum Step { Global, Index, Call, Compare(Comparison), Length, Concat, Arithmetic(u8) }
+pub enum Step { Global, Index, Call, Compare(Comparison), Length, Concat, Arithmetic(u32) }
 #[derive(Clone, Copy, PartialEq, Eq, Hash, Debug)]
 pub enum Comparison { Equal, Less, LessEqual }
 
@@ -45,7 +42,7 @@ fn mix(h: u64, x: u64) -> u64 {
 }
 
 impl<'a> Outside<'a> {
-    /// `falsehood`: how many of 100 values are nil or false. `texts`: what may be answered beside numbers and others.
+    /// `falsehood`: how many of 100 values are nil or false (comparisons answer either way alike). `texts`: what may be answered beside numbers and others.
     pub fn new(seed: u64, falsehood: usize, texts: &'a [Value]) -> Outside<'a> { Outside { steps: Vec::new(), hash: mix(1, seed), falsehood, texts } }
 
     fn take(&mut self, step: Step, values: Vec<Value>) -> Rng {
@@ -75,13 +72,13 @@ impl<'a> Outside<'a> {
         }
     }
     pub fn one(&mut self, step: Step, values: Vec<Value>) -> Value { let mut r = self.take(step, values); self.value(&mut r) }
-    pub fn truth(&mut self, c: Comparison, a: Value, b: Value) -> bool { let mut r = self.take(Step::Compare(c), vec![a, b]); r.one_in(2) }
+    pub fn compare(&mut self, c: Comparison, a: Value, b: Value) -> bool { let mut r = self.take(Step::Compare(c), vec![a, b]); r.one_in(2) }
     pub fn list(&mut self, values: Vec<Value>) -> Vec<Value> {
         let mut r = self.take(Step::Call, values);
         (0..r.below(4)).map(|_| self.value(&mut r)).collect()
     }
     /// A step only where folding would decline, or where an operand is no number.
-    pub fn arithmetic(&mut self, op: u8, values: Vec<Value>) -> Value {
+    pub fn arithmetic(&mut self, op: u32, values: Vec<Value>) -> Value {
         let folded = match values[..] { [Value::Number(a)] => fold(op, a, 0), [Value::Number(a), Value::Number(b)] => fold(op, a, b), _ => None };
         folded.map_or_else(|| self.one(Step::Arithmetic(op), values), Value::Number)
     }
@@ -144,14 +141,14 @@ impl Reading<'_, '_> {
                 if n.op == 13 && !truth(&a) || n.op == 14 && truth(&a) { return a; }
                 let b = self.one(right);
                 match n.op {
-                    0..=5 => self.outside.arithmetic(ADD + n.op, vec![a, b]),
+                    0..=5 => self.outside.arithmetic(ADD + u32::from(n.op), vec![a, b]),
                     6 => self.outside.one(Step::Concat, vec![a, b]),
-                    7 => of_truth(self.outside.truth(Comparison::Less, a, b)),
-                    8 => of_truth(self.outside.truth(Comparison::LessEqual, a, b)),
-                    9 => of_truth(self.outside.truth(Comparison::Less, b, a)),
-                    10 => of_truth(self.outside.truth(Comparison::LessEqual, b, a)),
-                    11 => of_truth(self.outside.truth(Comparison::Equal, a, b)),
-                    12 => of_truth(!self.outside.truth(Comparison::Equal, a, b)),
+                    7 => of_truth(self.outside.compare(Comparison::Less, a, b)),
+                    8 => of_truth(self.outside.compare(Comparison::LessEqual, a, b)),
+                    9 => of_truth(self.outside.compare(Comparison::Less, b, a)),
+                    10 => of_truth(self.outside.compare(Comparison::LessEqual, b, a)),
+                    11 => of_truth(self.outside.compare(Comparison::Equal, a, b)),
+                    12 => of_truth(!self.outside.compare(Comparison::Equal, a, b)),
                     _ => b,
                 }
             }

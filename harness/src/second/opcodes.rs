@@ -1,0 +1,27 @@
+//! The opcodes that occur, by Lua 5.1's numbers.
+pub const MOVE: u32 = 0;
+pub const LOADK: u32 = 1;
+pub const LOADBOOL: u32 = 2;
+pub const LOADNIL: u32 = 3;
+pub const GETGLOBAL: u32 = 5;
+pub const GETTABLE: u32 = 6;
+pub const SELF: u32 = 11;
+pub const ADD: u32 = 12;
+pub const SUB: u32 = 13;
+pub const MUL: u32 = 14;
+pub const DIV: u32 = 15;
+pub const MOD: u32 = 16;
+pub const POW: u32 = 17;
+pub const UNM: u32 = 18;
+pub const NOT: u32 = 19;
+pub const LEN: u32 = 20;
+pub const CONCAT: u32 = 21;
+pub const JMP: u32 = 22;
+pub const EQ: u32 = 23;
+pub const LT: u32 = 24;
+pub const LE: u32 = 25;
+pub const TEST: u32 = 26;
+pub const TESTSET: u32 = 27;
+pub const CALL: u32 = 28;
+pub const RETURN: u32 = 30;
+pub const VARARG: u32 = 37;
