@@ -91,7 +91,7 @@ fn one(bytes: &[u8], b: &mut Buffers, t: &mut Tally, r: &mut Rng, short: usize) 
     let nodes = formed.as_ref().map_or(4, |c| c.nodes.len());
     // where it is refused anyway, lengths that may or may not reach so far
     let (words, constants, pool) = whole.as_ref().map_or((nodes.min(400), nodes, 2 * nodes), |o| (o.code.len(), o.consts.len(), o.pool.len()));
-    // what include/fuchsiarasp.h says of every chunk that was compared
+    // what include/fuchsiarasp.h says of the chunks compared here
     if whole.as_ref().is_some_and(|o| o.code.len() > 8 * nodes + 1 || o.consts.len() > nodes) { return Err("more than 8 words for each node and one, or more constants than nodes".into()); }
     let exact = Sizes { code: words, lines: words, kinds: constants, values: constants, pool, scratch: nodes, counts: 4 };
     let mut more = |n: usize| n + [0, 1, r.below(5), r.below(40)][r.below(4)];
