@@ -68,8 +68,8 @@ enum fuchsiarasp_count {
  *
  * Lengths beyond which nothing changes: 131,071 for code and lines, 262,144 for kinds and values, the chunk's length for the pool,
  * the number of nodes (at most 524,287) for the scratch, 4 for counts. A node has at least two bytes, so chunk_len / 2 places of scratch suffice.
- * Not proved, but so on eleven million chunks (docs/DIFFERENCES.md, "A second reading"): no more than 8 words for each node and one, and no more
- * constants than nodes.
+ * Proved (docs/PROOFS.md, "How many words"): a chunk of n nodes gives no more than 8n + 1 words, and with so many of code and lines, and n up to
+ * 16,383, no refusal 13. Not proved, but so on eleven million chunks (docs/DIFFERENCES.md, "A second reading"): no more constants than nodes.
  */
 uint32_t fuchsiarasp_lower(
     const uint8_t *chunk, size_t chunk_len,

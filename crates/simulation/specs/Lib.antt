@@ -31,5 +31,6 @@ pub mod Leaves
 pub mod Methods
 pub mod Trees
 pub mod Pairing
+pub mod Parsing
 pub mod Nodes
 pub mod Whole

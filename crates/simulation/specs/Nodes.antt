@@ -17,11 +17,10 @@ use Rattle.ast.specs.declared.Many.the-variants as many
 use Rattle.ast.specs.declared.Head.{Head}
 use Rattle.ast.specs.declared.Head.the-variants as head
 use Rattle.ast.specs.declared.Node.{Node}
-use Rattle.nodes.specs.declared.node.NodeRead.{NodeRead}
 use Rattle.nodes.specs.declared.node.NodeRead.the-variants as read
 use Rattle.chunk.specs.Ast.{Span, Expr, leaf as leaf-node, one as one-node, two as two-node, many as many-node, Exprs, none as no-more, more}
 use Rattle.chunk.specs.Headers.{namesAt}
-use Rattle.chunk.specs.Form.{Parsed, parsed, refused, withParsed, exprsAt, rest, withNode, exprAt, namesOf, maxNesting}
+use Rattle.chunk.specs.Form.{Parsed, parsed, exprsAt, rest, exprAt, namesOf, maxNesting}
 use Rattle.chunk.specs.declared.header.Header.{Header}
 use Rattle.model.specs.declared.ExprContext.{ExprContext}
 use Rattle.model.specs.declared.State.{State}
@@ -29,7 +28,7 @@ use Rattle.model.specs.Steps.{Buffers, Result, Step, andThen, _>>=_, _>>_, get}
 use Rattle.model.specs.Emission.{with-place}
 use Rattle.model.specs.Discharge.{exp2nextreg}
 use Rattle.model.specs.Operators.{code-unop}
-use Rattle.model.specs.Expressions.{compile-funcargs, leaf-expr, after-one, between, after-two, callee, compile-head, compile-node, compile-expr}
+use Rattle.model.specs.Expressions.{compile-funcargs, leaf-expr, after-one, between, after-two, callee, compile-head, compile-expr}
 use Rattle.model.specs.Claims.{Bytes}
 use Rattle.labelled.specs.Code.{reg}
 use Rattle.labelled.specs.Places.{listed-include}
@@ -60,22 +59,7 @@ use Rattle.simulation.specs.Leaves.{text-listed, text-desc, sim-leaf}
 use Rattle.simulation.specs.Methods.{sim-callee}
 use Rattle.simulation.specs.Trees.{sound-comp}
 use Rattle.simulation.specs.Pairing.{sim-two}
-
--- ---- what was parsed
-
-pub record Inverse {A B : Type 0} (x : Parsed A) (g : A → ℕ → ℕ → Parsed B) (b : B) (at line : ℕ) : Type 0 where
-  pub value : A
-  pub place : ℕ
-  pub own-line : ℕ
-  pub first : x ≡ parsed value place own-line
-  pub then : g value place own-line ≡ parsed b at line
-
-pub invert : {A B : Type 0} (x : Parsed A) (g : A → ℕ → ℕ → Parsed B) (b : B) (at line : ℕ) → withParsed x g ≡ parsed b at line → Inverse x g b at line
-invert (parsed a p l) g b at line e = record { value = a; place = p; own-line = l; first = refl; then = e }
-invert (refused k) g b at line e = absurd (let y : _≡_ {A = ℕ} 0 1 = cc in omega arith)
-
-pub same-parsed : {A : Type 0} (a b : A) (p l at line : ℕ) → parsed a p l ≡ parsed b at line → (a ≡ b) × ((p ≡ at) × (l ≡ line))
-same-parsed a b p l at line e = (cc, (cc, cc))
+use Rattle.simulation.specs.Parsing.{invert, same-parsed, node-is, expr-is}
 
 -- ---- another place of the chunk
 
@@ -220,14 +204,6 @@ module _ (chunk : List ℕ) (hd : Header) (names : List Text) (nm : names ≡ na
   -- ---- expressions
 
   module _ (bytes : Bytes chunk) where
-    node-is : (r : NodeRead) (k : Node → Parsed Expr) (d : Expr) (at line : ℕ) → withNode r k ≡ parsed d at line → (n : Node) × ((r ≡ read.Node n) × (k n ≡ parsed d at line))
-    node-is (read.Node n) k d at line e = (n, (refl, e))
-    node-is (read.Refused r) k d at line e = absurd (let y : _≡_ {A = ℕ} 0 1 = cc in omega arith)
-
-    expr-is : (left : ℕ) (s : State) (m : Buffers) (n : Node) → nodeAt chunk (hd .varargs) (s .at) (s .line) ≡ read.Node n → compile-expr chunk hd (suc left) s m ≡ compile-head chunk hd (compile-expr chunk hd left) (n .head) (with-place (n .next) (n .line) s) m
-    unfolding compile-expr andThen
-    expr-is left s m n e = ap (λ r. compile-node chunk hd (compile-expr chunk hd left) r s m) e
-
     pub expr-at : (left : ℕ) (a : Expr) (at line at′ line′ : ℕ) → exprAt chunk (hd .varargs) left at line ≡ parsed a at′ line′ → Lowers-expr (length names) (compile-expr chunk hd left) (comp chunk names a) at line at′ line′
     unfolding exprAt
     expr-at zero a at line at′ line′ e Γ s m σ act one on l h = absurd (let y : _≡_ {A = ℕ} 0 1 = cc in omega arith)
@@ -235,7 +211,7 @@ module _ (chunk : List ℕ) (hd : Header) (names : List Text) (nm : names ≡ na
         let v = node-is (nodeAt chunk (hd .varargs) at line) _ a at′ line′ e in
         let n = v .0 in
         let here : nodeAt chunk (hd .varargs) (s .at) (s .line) ≡ read.Node n = rw (h .sim .at, h .sim .line) (v .1 .0) in
-        rw (expr-is left s m n here) (head-at (compile-expr chunk hd left) (exprAt chunk (hd .varargs) left) (expr-at left) (record { line = n .line; place = at; nesting = maxNesting - left }) (n .next) (n .line) Γ (with-place (n .next) (n .line) s) m σ act one on l (sim-place (n .next) (n .line) h) (n .head) a at′ line′ (short (v .0) (v .1 .0)) (v .1 .1))
+        rw (expr-is chunk hd left s m n here) (head-at (compile-expr chunk hd left) (exprAt chunk (hd .varargs) left) (expr-at left) (record { line = n .line; place = at; nesting = maxNesting - left }) (n .next) (n .line) Γ (with-place (n .next) (n .line) s) m σ act one on l (sim-place (n .next) (n .line) h) (n .head) a at′ line′ (short (v .0) (v .1 .0)) (v .1 .1))
       where
         short : (n : Node) → nodeAt chunk (hd .varargs) at line ≡ read.Node n → ShortHead chunk (n .head)
         short n z = subst (ShortNode chunk) z (short-node chunk bytes (hd .varargs) at line)

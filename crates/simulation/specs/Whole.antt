@@ -45,7 +45,8 @@ use Rattle.simulation.specs.Discharging.{sound-dv}
 use Rattle.simulation.specs.ToRegister.{sim-next}
 use Rattle.simulation.specs.Parts.{at-place, Lowers-expr}
 use Rattle.simulation.specs.Trees.{sound-comp}
-use Rattle.simulation.specs.Nodes.{invert, same-parsed, expr-at}
+use Rattle.simulation.specs.Parsing.{invert, same-parsed}
+use Rattle.simulation.specs.Nodes.{expr-at}
 
 -- ---- formulas
 
