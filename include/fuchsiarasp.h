@@ -66,10 +66,9 @@ enum fuchsiarasp_count {
  *   - each pointer is valid for its number of elements and aligned for their type; for 0 elements it may point anywhere, but is aligned and isn't null
  *   - no two buffers overlap, and the chunk overlaps none
  *
- * Lengths beyond which nothing changes: 131,071 for code and lines, 262,144 for kinds and values, the chunk's length for the pool,
- * the number of nodes (at most 524,287) for the scratch, 4 for counts. A node has at least two bytes, so chunk_len / 2 places of scratch suffice.
- * Proved (docs/PROOFS.md, "How many words"): a chunk of n nodes gives no more than 8n + 1 words, and with so many of code and lines, and n up to
- * 16,383, no refusal 13. Not proved, but so on eleven million chunks (docs/DIFFERENCES.md, "A second reading"): no more constants than nodes.
+ * How much to lend (proved: docs/PROOFS.md, "How much to lend"): a chunk of n nodes never needs more than 8n + 1 of code and lines, n of kinds and
+ * values, chunk_len of pool and n of scratch, and n is at most chunk_len / 2, since a node has two bytes at least. With that much, and n up to 16,383,
+ * a chunk that has the form is lowered or refused with 10. No more than 131,071 of code and lines, 262,144 of kinds and values and 4 of counts is ever used.
  */
 uint32_t fuchsiarasp_lower(
     const uint8_t *chunk, size_t chunk_len,

@@ -1,45 +1,49 @@
--- What conditional jumps and `not` take: a test and its jump behind the value, a `Not` behind it. `pop` takes a word back, which isn't counted.
-use Prim.Native.Nat.{ℕ, _+_, _-_, _≤_}
+-- What conditional jumps and `not` take: a test and its jump behind the value; a `Not` behind it, or a truth value, which may become a constant. `pop` takes a word back, which isn't counted.
+use Prim.Native.Nat.{ℕ, _+_, _-_, _*_, _≤_}
 use mathlib.Core.Bool.{Bool, true, false}
-use mathlib.Core.Path.{refl}
+use mathlib.Core.Path.{_≡_, refl}
 use native.Mathlib.Omega.{arith}
-use lib.ListN.{length, set, length-set}
+use lib.ListN.{length-set}
 use lib.Dec.{eqb}
 use Rattle.instructions.specs.Word.{aOf, setAOf}
 use Rattle.model.specs.declared.ExprKind.{ExprKind}
 use Rattle.model.specs.declared.ExprKind.the-variants.{Nil, True, False, K, KNum, Local, Global, Indexed, Jmp, Relocable, NonReloc, Call, VarArg}
 use Rattle.model.specs.declared.ExprContext.{ExprContext}
+use Rattle.model.specs.declared.State.{State}
+use Rattle.model.specs.Descriptor.{with-kind, with-jumps}
 use Rattle.model.specs.Steps.{return}
 use Rattle.model.specs.Emission.{with-pc}
 use Rattle.model.specs.Jumps.{get-jump-control}
 use Rattle.model.specs.Conditions.{bit, pop, invertjump, is-not, jumponcond, jump-if-false, jump-if-true, goiftrue, goiffalse, emit-not, negate, code-not}
-use Rattle.bound.specs.Takes.{left, Takes, at-most, takes-then, takes-return, takes-words, gives-if}
+use Rattle.bound.specs.Takes.{Resource, words, entries, text, used, word, plain, left, Spends, Takes, Any, at-most, spends-then, takes-then, free-then, then-free, spends-return, takes-return, takes-words, gives-if, room-same}
 use Rattle.bound.specs.Emission.{takes-change-word, takes-emit, takes-concat, takes-remove, takes-emit-jump, takes-patch-to-here}
-use Rattle.bound.specs.Discharge.{load, load-most, dv-then, takes-free-expr, takes-discharge2anyreg}
+use Rattle.bound.specs.Discharge.{due, owes, value, dv-then, takes-free-expr, takes-discharge2anyreg}
 
-module _ {cap : ℕ} where
-  takes-pop : Takes cap 0 pop
+popped : (R : Resource) (s : State) → used R (with-pc (s .pc - 1) s) ≤ used R s
+popped words s = omega arith
+popped entries s = omega arith
+popped text s = omega arith
+
+module _ {R : Resource} {cap : ℕ} where
+  takes-pop : Takes R cap 0 pop
   unfolding pop
-  takes-pop s m l =
-      let c : cap ≤ length (set (m .code) (s .pc - 1) 0) = omega (arith, length-set (m .code) (s .pc - 1) 0, l .code) in
-      let d : cap ≤ length (set (m .lines) (s .pc - 1) 0) = omega (arith, length-set (m .lines) (s .pc - 1) 0, l .lines) in
-      left tt (with-pc (s .pc - 1) s) _ tt (omega arith) refl refl (record { code = c; lines = d; most = l .most })
+  takes-pop s m l = left tt (with-pc (s .pc - 1) s) _ tt (omega (arith, popped R s)) refl refl (room-same R cap m _ (length-set (m .code) (s .pc - 1) 0) (length-set (m .lines) (s .pc - 1) 0) refl refl refl l)
 
-  takes-invertjump : (e : ExprContext) → Takes cap 0 (invertjump e)
+  takes-invertjump : (e : ExprContext) → Takes R cap 0 (invertjump e)
   unfolding invertjump
-  takes-invertjump e = takes-then takes-words (λ code. takes-change-word (get-jump-control code (e .info)) (λ w. setAOf w (bit (eqb (aOf w) 0))))
+  takes-invertjump e = free-then takes-words (λ code. takes-change-word (get-jump-control code (e .info)) (λ w. setAOf w (bit (eqb (aOf w) 0))))
 
-  takes-jumponcond : (e : ExprContext) (cond : Bool) → Takes cap (load (e .kind) + 2) (jumponcond e cond)
+  takes-jumponcond : (e : ExprContext) (cond : Bool) → Takes R cap (value R e + 2 * word R) (jumponcond e cond)
   unfolding jumponcond
-  takes-jumponcond e cond = at-most (takes-then takes-words (λ code.
-      gives-if {c = load (e .kind) + 2} (is-not code e) (λ _. at-most (takes-then takes-pop (λ _. takes-then (takes-emit _) (λ _. takes-emit-jump))) (omega arith))
-      (λ _. takes-then (takes-discharge2anyreg e) (λ e₁. takes-then (takes-free-expr e₁) (λ _. takes-then (takes-emit _) (λ _. takes-emit-jump)))))) (omega arith)
+  takes-jumponcond e cond = free-then takes-words (λ code.
+      gives-if (is-not code e) (λ _. at-most (free-then takes-pop (λ _. takes-then (takes-emit _) (λ _. takes-emit-jump))) (omega arith))
+      (λ _. at-most (takes-then (takes-discharge2anyreg e) (λ e₁. free-then (takes-free-expr e₁) (λ _. takes-then (takes-emit _) (λ _. takes-emit-jump)))) (omega arith)))
 
   -- no word
-  takes-none : {A : Type 0} {c : ℕ} (a : A) → Takes cap c (return a)
+  takes-none : {A : Type 0} {c : ℕ} (a : A) → Takes R cap c (return a)
   takes-none a = at-most (takes-return a) (omega arith)
 
-  takes-jump-if-false : (k : ExprKind) (e : ExprContext) → Takes cap (load (e .kind) + 2) (jump-if-false k e)
+  takes-jump-if-false : (k : ExprKind) (e : ExprContext) → Takes R cap (value R e + 2 * word R) (jump-if-false k e)
   unfolding jump-if-false
   takes-jump-if-false Nil e = takes-jumponcond e false
   takes-jump-if-false True e = takes-none 0
@@ -49,13 +53,13 @@ module _ {cap : ℕ} where
   takes-jump-if-false Local e = takes-jumponcond e false
   takes-jump-if-false Global e = takes-jumponcond e false
   takes-jump-if-false Indexed e = takes-jumponcond e false
-  takes-jump-if-false Jmp e = at-most (takes-then (takes-invertjump e) (λ _. takes-return _)) (omega arith)
+  takes-jump-if-false Jmp e = at-most (free-then (takes-invertjump e) (λ _. takes-return _)) (omega arith)
   takes-jump-if-false Relocable e = takes-jumponcond e false
   takes-jump-if-false NonReloc e = takes-jumponcond e false
   takes-jump-if-false Call e = takes-jumponcond e false
   takes-jump-if-false VarArg e = takes-jumponcond e false
 
-  takes-jump-if-true : (k : ExprKind) (e : ExprContext) → Takes cap (load (e .kind) + 2) (jump-if-true k e)
+  takes-jump-if-true : (k : ExprKind) (e : ExprContext) → Takes R cap (value R e + 2 * word R) (jump-if-true k e)
   unfolding jump-if-true
   takes-jump-if-true Nil e = takes-none 0
   takes-jump-if-true True e = at-most takes-emit-jump (omega arith)
@@ -71,34 +75,43 @@ module _ {cap : ℕ} where
   takes-jump-if-true Call e = takes-jumponcond e true
   takes-jump-if-true VarArg e = takes-jumponcond e true
 
-  pub takes-goiftrue : (e : ExprContext) → Takes cap 3 (goiftrue e)
+  pub takes-goiftrue : (e : ExprContext) → Takes R cap (value R e + 2 * word R) (goiftrue e)
   unfolding goiftrue
-  takes-goiftrue e = at-most (dv-then e 2 (λ e₁ h. at-most (takes-then (takes-jump-if-false (e₁ .kind) e₁) (λ list. takes-then (takes-concat (e₁ .f) list) (λ f. takes-then (takes-patch-to-here (e₁ .t)) (λ _. takes-return _)))) (omega arith))) (omega (arith, load-most (e .kind)))
+  takes-goiftrue e = dv-then e (2 * word R) (λ e₁ h. then-free (takes-jump-if-false (e₁ .kind) e₁) (λ list. free-then (takes-concat (e₁ .f) list) (λ f. free-then (takes-patch-to-here (e₁ .t)) (λ _. takes-return _))))
 
-  pub takes-goiffalse : (e : ExprContext) → Takes cap 3 (goiffalse e)
+  pub takes-goiffalse : (e : ExprContext) → Takes R cap (value R e + 2 * word R) (goiffalse e)
   unfolding goiffalse
-  takes-goiffalse e = at-most (dv-then e 2 (λ e₁ h. at-most (takes-then (takes-jump-if-true (e₁ .kind) e₁) (λ list. takes-then (takes-concat (e₁ .t) list) (λ t. takes-then (takes-patch-to-here (e₁ .f)) (λ _. takes-return _)))) (omega arith))) (omega (arith, load-most (e .kind)))
+  takes-goiffalse e = dv-then e (2 * word R) (λ e₁ h. then-free (takes-jump-if-true (e₁ .kind) e₁) (λ list. free-then (takes-concat (e₁ .t) list) (λ t. free-then (takes-patch-to-here (e₁ .f)) (λ _. takes-return _))))
 
-  takes-emit-not : (e : ExprContext) → Takes cap (load (e .kind) + 1) (emit-not e)
+  -- a word whose register is open owes nothing
+  spends-emit-not : (e : ExprContext) → Spends R cap (value R e + word R) (emit-not e) (owes R) Any
   unfolding emit-not
-  takes-emit-not e = takes-then (takes-discharge2anyreg e) (λ e₁. takes-then (takes-free-expr e₁) (λ _. takes-then (takes-emit _) (λ pc. takes-return _)))
+  spends-emit-not e = at-most (takes-then (takes-discharge2anyreg e) (λ e₁. free-then (takes-free-expr e₁) (λ _. takes-then (takes-emit _) (λ pc. at-most {d = 0} (spends-return (with-kind Relocable pc e₁) tt) (omega arith))))) (omega arith)
 
-  takes-negate : (k : ExprKind) (e : ExprContext) → Takes cap (load (e .kind) + 1) (negate k e)
+  -- a descriptor without a word
+  spends-kept : {c : ℕ} (e : ExprContext) → owes R e ≤ c → Spends R cap c (return e) (owes R) Any
+  spends-kept e h = at-most (spends-return e tt) h
+
+  -- a truth value
+  spends-truth : (k : ExprKind) (e : ExprContext) → due R k ≡ plain R → Spends R cap (value R e + word R + plain R) (return (with-kind k (e .info) e)) (owes R) Any
+  spends-truth k e h = spends-kept _ (omega (arith, h))
+
+  spends-negate : (k : ExprKind) (e : ExprContext) → Spends R cap (value R e + word R + plain R) (negate k e) (owes R) Any
   unfolding negate
-  takes-negate Nil e = takes-none _
-  takes-negate True e = takes-none _
-  takes-negate False e = takes-none _
-  takes-negate K e = takes-none _
-  takes-negate KNum e = takes-none _
-  takes-negate Local e = takes-none e
-  takes-negate Global e = takes-none e
-  takes-negate Indexed e = takes-none e
-  takes-negate Jmp e = at-most (takes-then (takes-invertjump e) (λ _. takes-return e)) (omega arith)
-  takes-negate Relocable e = takes-emit-not e
-  takes-negate NonReloc e = takes-emit-not e
-  takes-negate Call e = takes-none e
-  takes-negate VarArg e = takes-none e
+  spends-negate Nil e = spends-truth True e refl
+  spends-negate True e = spends-truth False e refl
+  spends-negate False e = spends-truth True e refl
+  spends-negate K e = spends-truth False e refl
+  spends-negate KNum e = spends-truth False e refl
+  spends-negate Local e = spends-kept e (omega arith)
+  spends-negate Global e = spends-kept e (omega arith)
+  spends-negate Indexed e = spends-kept e (omega arith)
+  spends-negate Jmp e = free-then (takes-invertjump e) (λ _. spends-kept e (omega arith))
+  spends-negate Relocable e = at-most (spends-emit-not e) (omega arith)
+  spends-negate NonReloc e = at-most (spends-emit-not e) (omega arith)
+  spends-negate Call e = spends-kept e (omega arith)
+  spends-negate VarArg e = spends-kept e (omega arith)
 
-  pub takes-code-not : (e : ExprContext) → Takes cap 2 (code-not e)
+  pub spends-code-not : (e : ExprContext) → Spends R cap (value R e + word R + plain R) (code-not e) (owes R) Any
   unfolding code-not
-  takes-code-not e = at-most (dv-then e 1 (λ e₁ h. at-most (takes-then (takes-negate (e₁ .kind) e₁) (λ e₂. takes-then (takes-remove (e₂ .t)) (λ _. takes-then (takes-remove (e₂ .f)) (λ _. takes-return _)))) (omega arith))) (omega (arith, load-most (e .kind)))
+  spends-code-not e = at-most (dv-then e (word R + plain R) (λ e₁ h. at-most (spends-then 0 (spends-negate (e₁ .kind) e₁) (λ e₂ _. at-most (free-then (takes-remove (e₂ .t)) (λ _. free-then (takes-remove (e₂ .f)) (λ _. spends-return (with-jumps (e₂ .f) (e₂ .t) e₂) tt))) (omega arith))) (omega arith))) (omega arith)

@@ -1,10 +1,9 @@
--- What expressions take: a tree of n nodes at most 8n - 4 words, and bringing it to a register 4 more. By induction on the nestings that are left, and on the arguments.
+-- What expressions take: for each node 8 words, and its text or one other constant. Of these the answer holds on to 4 words, to be brought to a register, and to what it owes of constants. By induction on the nestings that are left, and on the arguments.
 use Prim.Native.Nat.{ℕ, zero, suc, _+_, _-_, _*_, _≤_}
 use mathlib.Core.Path.{_≡_, refl, ap}
 use mathlib.Core.List.{List}
 use mathlib.Core.Option.{Option, some, none}
 use native.Mathlib.Omega.{arith}
-use lib.ListN.{length, length-append}
 use Rattle.instructions.specs.Word.{setAOf, setBOf, setCOf}
 use Rattle.constants.specs.declared.Val.the-variants as val
 use Rattle.cursor.specs.Fields.{bytesOf}
@@ -21,218 +20,225 @@ use Rattle.ast.specs.declared.Many.the-variants as many
 use Rattle.ast.specs.declared.Head.{Head}
 use Rattle.ast.specs.declared.Head.the-variants as head
 use Rattle.nodes.specs.declared.node.NodeRead.the-variants as read
-use Rattle.chunk.specs.Ast.{Span, Expr, leaf as leaf-node, one as one-node, two as two-node, many as many-node, Exprs, none as no-more, more, spans, spansOf}
+use Rattle.chunk.specs.Ast.{Span, Expr, leaf as leaf-node, one as one-node, two as two-node, many as many-node, Exprs, none as no-more, more}
 use Rattle.chunk.specs.Headers.{namesAt}
 use Rattle.chunk.specs.Form.{Parsed, parsed, exprsAt, rest, exprAt, namesOf, maxNesting}
 use Rattle.chunk.specs.declared.header.Header.{Header}
 use Rattle.model.specs.declared.ExprKind.the-variants.{K, Call}
 use Rattle.model.specs.declared.ExprContext.{ExprContext}
 use Rattle.model.specs.declared.State.{State}
-use Rattle.model.specs.Descriptor.{newOf, isKind}
+use Rattle.model.specs.Descriptor.{newOf, with-kind, isKind}
 use Rattle.model.specs.Steps.{Buffers, Step, _>>=_}
 use Rattle.model.specs.Emission.{with-place}
 use Rattle.model.specs.Discharge.{exp2nextreg}
 use Rattle.model.specs.Expressions.{search-local, set-multret, above, emit-call, closed-call, is-open, last-argument, compile-funcargs, set-indexed, code-self, string-constant, resolved, resolve-var, leaf-expr, after-one, between, after-two, callee, compile-head, compile-expr}
 use Rattle.simulation.specs.Parsing.{invert, same-parsed, node-is, expr-is}
-use Rattle.bound.specs.Takes.{Long, Leaves, Any, Gives, Takes, later, at-most, takes, then-leaves, gives-then, takes-then, takes-return, takes-get, gives-if}
+use Rattle.bound.specs.Takes.{Resource, word, plain, string, used, Room, Leaves, Spends, Takes, Any, later, at-most, spends-less, holding, takes, then-leaves, gives-then, takes-then, free-then, then-free, spends-return, takes-return, takes-get, gives-if, used-same}
 use Rattle.bound.specs.Emission.{takes-add-constant, takes-free, takes-change-word, takes-emit-at, takes-emit, takes-reserve-regs}
-use Rattle.bound.specs.Discharge.{weight, weight-most, bare-light, takes-discharge-vars, takes-free-expr, gives-exp2nextreg, gives-exp2anyreg, gives-exp2rk}
-use Rattle.bound.specs.Operators.{Ready, gives-before-right, takes-after-right, takes-code-unop}
+use Rattle.bound.specs.Discharge.{load-most, owes, brings, brings-most, bare-light, spends-discharge-vars, takes-free-expr, gives-exp2nextreg, gives-exp2anyreg}
+use Rattle.bound.specs.Operands.{spends-exp2rk}
+use Rattle.bound.specs.Operators.{Ready, left-owes, spends-before-right, spends-after-right, spends-code-unop}
 
 -- ---- trees
 
--- the nodes of a tree, and what they take
-abbrev pub size : Expr → ℕ
-size a = length (spans a)
+-- a node's text, or one other constant
+abbrev pub own-leaf : Resource → Leaf → ℕ
+own-leaf R leaf.Nil = plain R
+own-leaf R leaf.True = plain R
+own-leaf R leaf.False = plain R
+own-leaf R (leaf.Number b) = plain R
+own-leaf R (leaf.Str t) = string R (t .len)
+own-leaf R leaf.VarArg = plain R
+own-leaf R (leaf.Name t) = string R (t .len)
 
-abbrev pub sizes : Exprs → ℕ
-sizes es = length (spansOf es)
+abbrev pub own-one : Resource → One → ℕ
+own-one R (one.Unary o) = plain R
+own-one R (one.Field t) = string R (t .len)
+own-one R one.Paren = plain R
 
-abbrev pub cost : Expr → ℕ
-cost a = 8 * size a - 4
+abbrev pub own-many : Resource → Many → ℕ
+own-many R many.Call = plain R
+own-many R (many.MethodCall t) = string R (t .len)
 
-size-leaf : (s : Span) (l : Leaf) → size (leaf-node s l) ≡ 1
-unfolding spans
-size-leaf s l = refl
+-- what trees take
+unfoldable mutual
+  pub cost : Resource → Expr → ℕ
+  cost R (leaf-node s l) = 8 * word R + own-leaf R l
+  cost R (one-node s o a) = cost R a + (8 * word R + own-one R o)
+  cost R (two-node s t a b) = cost R a + (cost R b + (8 * word R + plain R))
+  cost R (many-node s k a es) = cost R a + (costs R es + (8 * word R + own-many R k))
 
-size-one : (s : Span) (o : One) (a : Expr) → size (one-node s o a) ≡ size a + 1
-unfolding spans
-size-one s o a = omega arith
+  pub costs : Resource → Exprs → ℕ
+  costs R no-more = 0
+  costs R (more a es) = cost R a + costs R es
 
-size-two : (s : Span) (t : Two) (a b : Expr) → size (two-node s t a b) ≡ size a + size b + 1
-unfolding spans
-size-two s t a b = simp length-append (omega arith)
+-- what the answer holds on to
+abbrev pub kept : Resource → ExprContext → ℕ
+kept R e = 4 * word R + owes R e
 
-size-many : (s : Span) (k : Many) (a : Expr) (es : Exprs) → size (many-node s k a es) ≡ size a + sizes es + 1
-unfolding spans
-size-many s k a es = simp length-append (omega arith)
+-- what the first sub-expression is, and owes, before the second one is lowered
+abbrev ReadyTwo : Resource → Two → ExprContext → Type 0
+ReadyTwo R (two.Binary o) e = Ready R o e
+ReadyTwo R two.Index e = Unit {0}
 
-pub some-node : (a : Expr) → 1 ≤ size a
-some-node (leaf-node s l) = omega (arith, size-leaf s l)
-some-node (one-node s o a) = omega (arith, size-one s o a)
-some-node (two-node s t a b) = omega (arith, size-two s t a b)
-some-node (many-node s k a es) = omega (arith, size-many s k a es)
-
-size-none : sizes no-more ≡ 0
-unfolding spansOf
-size-none = refl
-
-pub size-more : (a : Expr) (es : Exprs) → sizes (more a es) ≡ size a + sizes es
-unfolding spansOf
-size-more a es = simp length-append refl
-
--- what the first sub-expression is before the second one is lowered
-abbrev ReadyTwo : Two → ExprContext → Type 0
-ReadyTwo (two.Binary o) e = Ready o e
-ReadyTwo two.Index e = Unit {0}
+abbrev first-owes : Resource → Two → ExprContext → ℕ
+first-owes R (two.Binary o) e = left-owes R o e
+first-owes R two.Index e = 0
 
 -- ---- steps that read
 
 -- from one place and line of the chunk to another
-abbrev pub Reads : ℕ → ℕ → {A : Type 0} → Step A → (A → Type 0) → ℕ → ℕ → ℕ → ℕ → Type 0
-Reads cap c x P at line at′ line′ = (s : State) (m : Buffers) → s .at ≡ at → s .line ≡ line → Long cap m → Leaves cap c (s .pc) at′ line′ P (x s m)
+abbrev pub Reads : Resource → ℕ → ℕ → {A : Type 0} → Step A → (A → ℕ) → ℕ → ℕ → ℕ → ℕ → (A → Type 0) → Type 0
+Reads R cap c x φ at line at′ line′ P = (s : State) (m : Buffers) → s .at ≡ at → s .line ≡ line → Room R cap m → Leaves R cap c (used R s) at′ line′ φ P (x s m)
 
-module _ {cap : ℕ} where
-  pub stays : {A : Type 0} {P : A → Type 0} {c : ℕ} {x : Step A} → Gives cap c x P → (at line : ℕ) → Reads cap c x P at line at line
+module _ {R : Resource} {cap : ℕ} where
+  pub stays : {A : Type 0} {φ : A → ℕ} {P : A → Type 0} {c : ℕ} {x : Step A} → Spends R cap c x φ P → (at line : ℕ) → Reads R cap c x φ at line at line P
   stays g at line s m a l k = later (g s m k) (omega arith) a l
 
-  pub reads-then : {A B : Type 0} {P : A → Type 0} {Q : B → Type 0} {c d at line p q at′ line′ : ℕ} {x : Step A} {f : A → Step B} → Reads cap c x P at line p q → ((a : A) → P a → Reads cap d (f a) Q p q at′ line′) → Reads cap (c + d) (x >>= f) Q at line at′ line′
-  reads-then r h s m a l k = then-leaves (r s m a l k) (λ b s₁ m₁ p e f k₁. h b p s₁ m₁ e f k₁)
+  pub reads-then : {A B : Type 0} {φ : A → ℕ} {ψ : B → ℕ} {P : A → Type 0} {Q : B → Type 0} {c at line p q at′ line′ : ℕ} {x : Step A} {f : A → Step B} (d : ℕ) → Reads R cap c x φ at line p q P → ((a : A) → P a → Reads R cap (φ a + d) (f a) ψ p q at′ line′ Q) → Reads R cap (c + d) (x >>= f) ψ at line at′ line′ Q
+  reads-then d r h s m a l k = then-leaves d (r s m a l k) (λ b s₁ m₁ p e f k₁. h b p s₁ m₁ e f k₁)
 
-  -- at an equal place, with more words
-  pub moved : {A : Type 0} {P : A → Type 0} {c d at line p q p′ q′ : ℕ} {x : Step A} → Reads cap c x P at line p q → p ≡ p′ → q ≡ q′ → c ≤ d → Reads cap d x P at line p′ q′
+  -- at an equal place, with more of it
+  pub moved : {A : Type 0} {φ : A → ℕ} {P : A → Type 0} {c d at line p q p′ q′ : ℕ} {x : Step A} → Reads R cap c x φ at line p q P → p ≡ p′ → q ≡ q′ → c ≤ d → Reads R cap d x φ at line p′ q′ P
   moved r i j h s m a l k = later (r s m a l k) (omega (arith, h)) i j
+
+  pub more-of : {A : Type 0} {φ : A → ℕ} {P : A → Type 0} {c d at line p q : ℕ} {x : Step A} → Reads R cap c x φ at line p q P → c ≤ d → Reads R cap d x φ at line p q P
+  more-of r h = moved r refl refl h
 
   -- ---- calls
 
-  takes-set-multret : (e : ExprContext) → Takes cap 0 (set-multret e)
+  takes-set-multret : (e : ExprContext) → Takes R cap 0 (set-multret e)
   unfolding set-multret
   takes-set-multret e = gives-if (isKind Call e) (λ _. takes-change-word (e .info) (λ w. setCOf w 0))
-      (λ _. takes-then takes-get (λ s. takes-then (takes-change-word (e .info) (λ w. setAOf (setBOf w 0) (s .free))) (λ _. takes-reserve-regs 1)))
+      (λ _. free-then takes-get (λ s. free-then (takes-change-word (e .info) (λ w. setAOf (setBOf w 0) (s .free))) (λ _. takes-reserve-regs 1)))
 
-  takes-emit-call : (func : ExprContext) (b line : ℕ) → Takes cap 1 (emit-call func b line)
+  spends-emit-call : (func : ExprContext) (b line : ℕ) → Spends R cap (word R) (emit-call func b line) (owes R) Any
   unfolding emit-call
-  takes-emit-call func b line = takes-then (takes-emit-at _ line) (λ pc. takes-then (takes-free (above (func .info))) (λ _. takes-return _))
+  spends-emit-call func b line = at-most (takes-then (takes-emit-at _ line) (λ pc. free-then (takes-free (above (func .info))) (λ _. at-most {d = 0} (spends-return (with-kind Call pc func) tt) (omega arith)))) (omega arith)
 
-  takes-closed-call : (func : ExprContext) (line : ℕ) → Takes cap 1 (closed-call func line)
+  spends-closed-call : (func : ExprContext) (line : ℕ) → Spends R cap (word R) (closed-call func line) (owes R) Any
   unfolding closed-call
-  takes-closed-call func line = takes-then takes-get (λ s. takes-emit-call func (s .free - above (func .info) + 1) line)
+  spends-closed-call func line = free-then takes-get (λ s. spends-emit-call func (s .free - above (func .info) + 1) line)
 
-  pub takes-nextreg : (e : ExprContext) → Takes cap 4 (exp2nextreg e)
-  takes-nextreg e = at-most (takes (gives-exp2nextreg e)) (weight-most e)
+  pub takes-nextreg : (e : ExprContext) → Takes R cap (kept R e) (exp2nextreg e)
+  takes-nextreg e = at-most (takes (gives-exp2nextreg e)) (brings-most R e)
 
-  takes-last-argument : (func : ExprContext) (line : ℕ) (e : ExprContext) → Takes cap 5 (last-argument func line e)
+  spends-last-argument : (func : ExprContext) (line : ℕ) (e : ExprContext) → Spends R cap (kept R e + word R) (last-argument func line e) (owes R) Any
   unfolding last-argument
-  takes-last-argument func line e = gives-if {c = 5} (is-open e) (λ _. at-most (takes-then (takes-set-multret e) (λ _. takes-emit-call func 0 line)) (omega arith)) (λ _. takes-then (takes-nextreg e) (λ _. takes-closed-call func line))
+  spends-last-argument func line e = gives-if (is-open e) (λ _. at-most (free-then (takes-set-multret e) (λ _. spends-emit-call func 0 line)) (omega arith)) (λ _. takes-then (takes-nextreg e) (λ _. spends-closed-call func line))
 
-  takes-set-indexed : (t key : ExprContext) → Takes cap (weight key) (set-indexed t key)
+  spends-set-indexed : (t key : ExprContext) → Spends R cap (brings R key) (set-indexed t key) (owes R) Any
   unfolding set-indexed
-  takes-set-indexed t key = at-most (takes-then (takes (gives-exp2rk key)) (λ k. takes-return _)) (omega arith)
+  spends-set-indexed t key = at-most (takes-then (takes (spends-exp2rk key)) (λ k. at-most {d = 0} (spends-return _ tt) (omega arith))) (omega arith)
 
-  takes-code-self : (e key : ExprContext) → Takes cap (weight e + weight key + 1) (code-self e key)
+  takes-code-self : (e key : ExprContext) → Takes R cap (brings R e + brings R key + word R) (code-self e key)
   unfolding code-self
   takes-code-self e key =
       at-most (takes-then (takes (gives-exp2anyreg e)) (λ e₁.
-      takes-then (takes-free-expr e₁) (λ _.
-      takes-then takes-get (λ s.
-      takes-then (takes-reserve-regs 2) (λ _.
-      takes-then (takes (gives-exp2rk key)) (λ k.
-      takes-then (takes-emit _) (λ _. takes-then (takes-free-expr k) (λ _. takes-return _)))))))) (omega arith)
+      free-then (takes-free-expr e₁) (λ _.
+      free-then takes-get (λ s.
+      free-then (takes-reserve-regs 2) (λ _.
+      takes-then (takes (spends-exp2rk key)) (λ k.
+      then-free (takes-emit _) (λ _. free-then (takes-free-expr k) (λ _. takes-return _)))))))) (omega arith)
 
   -- ---- nodes
 
   module _ (chunk : List ℕ) (hd : Header) where
-    takes-string-constant : (t : Text) → Takes cap 0 (string-constant chunk hd t)
+    takes-string-constant : (t : Text) → Takes R cap (string R (t .len)) (string-constant chunk hd t)
     takes-string-constant t = takes-add-constant chunk (val.Str (t .start) (t .len))
 
-    takes-resolved : (t : Text) (r : Option ℕ) → Takes cap 0 (resolved chunk hd t r)
-    takes-resolved t (some r) = takes-return _
-    takes-resolved t none = takes-then (takes-string-constant t) (λ k. takes-return _)
+    spends-resolved : (t : Text) (r : Option ℕ) → Spends R cap (string R (t .len)) (resolved chunk hd t r) (owes R) Any
+    spends-resolved t (some r) = at-most (spends-return _ tt) (omega arith)
+    spends-resolved t none = at-most (takes-then (takes-string-constant t) (λ k. at-most {d = 0} (spends-return _ tt) (omega arith))) (omega arith)
 
-    takes-resolve-var : (t : Text) → Takes cap 0 (resolve-var chunk hd t)
+    spends-resolve-var : (t : Text) → Spends R cap (string R (t .len)) (resolve-var chunk hd t) (owes R) Any
     unfolding resolve-var
-    takes-resolve-var t = takes-resolved t (search-local chunk (bytesOf chunk t) (namesOf (namesAt chunk (hd .locals) (hd .names))) 0)
+    spends-resolve-var t = spends-resolved t (search-local chunk (bytesOf chunk t) (namesOf (namesAt chunk (hd .locals) (hd .names))) 0)
 
-    takes-leaf : (l : Leaf) → Takes cap 1 (leaf-expr chunk hd l)
+    spends-leaf : (l : Leaf) → Spends R cap (word R + own-leaf R l) (leaf-expr chunk hd l) (owes R) Any
     unfolding leaf-expr
-    takes-leaf leaf.Nil = at-most (takes-return _) (omega arith)
-    takes-leaf leaf.True = at-most (takes-return _) (omega arith)
-    takes-leaf leaf.False = at-most (takes-return _) (omega arith)
-    takes-leaf (leaf.Number b) = at-most (takes-return _) (omega arith)
-    takes-leaf (leaf.Str t) = at-most (takes-then (takes-string-constant t) (λ k. takes-return _)) (omega arith)
-    takes-leaf leaf.VarArg = takes-then (takes-emit _) (λ pc. takes-return _)
-    takes-leaf (leaf.Name t) = at-most (takes-resolve-var t) (omega arith)
+    spends-leaf leaf.Nil = at-most (spends-return _ tt) (omega arith)
+    spends-leaf leaf.True = at-most (spends-return _ tt) (omega arith)
+    spends-leaf leaf.False = at-most (spends-return _ tt) (omega arith)
+    spends-leaf (leaf.Number b) = at-most (spends-return _ tt) (omega arith)
+    spends-leaf (leaf.Str t) = at-most (takes-then (takes-string-constant t) (λ k. at-most {d = 0} (spends-return _ tt) (omega arith))) (omega arith)
+    spends-leaf leaf.VarArg = at-most (takes-then (takes-emit _) (λ pc. at-most {d = 0} (spends-return _ tt) (omega arith))) (omega arith)
+    spends-leaf (leaf.Name t) = at-most (spends-resolve-var t) (omega arith)
 
-    takes-after-one : (o : One) (e : ExprContext) → Takes cap 8 (after-one chunk hd o e)
+    spends-after-one : (o : One) (e : ExprContext) → Spends R cap (owes R e + (8 * word R + own-one R o)) (after-one chunk hd o e) (owes R) Any
     unfolding after-one
-    takes-after-one (one.Unary o) e = at-most (takes-code-unop o e) (omega arith)
-    takes-after-one (one.Field t) e = at-most (takes-then (takes (gives-exp2anyreg e)) (λ e₁. takes-then (takes-string-constant t) (λ k. takes-set-indexed e₁ (newOf K k)))) (omega (arith, weight-most e))
-    takes-after-one one.Paren e = at-most (takes-discharge-vars e) (omega arith)
+    spends-after-one (one.Unary o) e = at-most (spends-code-unop o e) (omega arith)
+    spends-after-one (one.Field t) e = at-most (takes-then (takes (gives-exp2anyreg e)) (λ e₁. takes-then (takes-string-constant t) (λ k. at-most {d = word R} (spends-set-indexed e₁ (newOf K k)) (omega arith)))) (omega (arith, brings-most R e))
+    spends-after-one one.Paren e = at-most (spends-less (spends-discharge-vars e) (λ e₁ h. (omega arith, tt))) (omega (arith, load-most R (e .kind)))
 
-    gives-between : (t : Two) (e : ExprContext) → Gives cap 4 (between chunk hd t e) (ReadyTwo t)
+    spends-between : (t : Two) (e : ExprContext) → Spends R cap (kept R e) (between chunk hd t e) (first-owes R t) (ReadyTwo R t)
     unfolding between
-    gives-between (two.Binary o) e = gives-before-right o e
-    gives-between two.Index e = at-most (takes (gives-exp2anyreg e)) (weight-most e)
+    spends-between (two.Binary o) e = at-most (spends-before-right o e) (omega arith)
+    spends-between two.Index e = at-most (takes (gives-exp2anyreg e)) (brings-most R e)
 
-    takes-after-two : (t : Two) (e₁ e₂ : ExprContext) → ReadyTwo t e₁ → Takes cap 8 (after-two chunk hd t e₁ e₂)
+    spends-after-two : (t : Two) (e₁ e₂ : ExprContext) → ReadyTwo R t e₁ → Spends R cap (first-owes R t e₁ + owes R e₂ + 8 * word R) (after-two chunk hd t e₁ e₂) (owes R) Any
     unfolding after-two
-    takes-after-two (two.Binary o) e₁ e₂ r = takes-after-right o e₁ e₂ r
-    takes-after-two two.Index e₁ e₂ r = at-most (takes-set-indexed e₁ e₂) (omega (arith, weight-most e₂))
+    spends-after-two (two.Binary o) e₁ e₂ r = spends-after-right o e₁ e₂ r
+    spends-after-two two.Index e₁ e₂ r = at-most (spends-set-indexed e₁ e₂) (omega (arith, brings-most R e₂))
 
-    takes-callee : (k : Many) (e : ExprContext) → Takes cap 7 (callee chunk hd k e)
+    takes-callee : (k : Many) (e : ExprContext) → Takes R cap (owes R e + own-many R k + 7 * word R) (callee chunk hd k e)
     unfolding callee
     takes-callee many.Call e = at-most (takes-nextreg e) (omega arith)
-    takes-callee (many.MethodCall t) e = at-most (gives-then (gives-exp2anyreg e) (λ e₁ b. takes-then (takes-string-constant t) (λ k. at-most {d = 3} (takes-code-self e₁ (newOf K k)) (omega (arith, bare-light e₁ b))))) (omega (arith, weight-most e))
+    takes-callee (many.MethodCall t) e = at-most (gives-then (gives-exp2anyreg e) (λ e₁ b. takes-then (takes-string-constant t) (λ k. at-most {d = 3 * word R} (takes-code-self e₁ (newOf K k)) (omega (arith, bare-light R e₁ b .0, bare-light R e₁ b .1))))) (omega (arith, brings-most R e))
 
     -- sub-expressions are lowered by g and parsed by F
-    module _ (g : Step ExprContext) (F : ℕ → ℕ → Parsed Expr) (lowers : (a : Expr) (at line at′ line′ : ℕ) → F at line ≡ parsed a at′ line′ → Reads cap (cost a) g Any at line at′ line′) where
-      args-at : (n : ℕ) (es : Exprs) (at line at′ line′ : ℕ) → exprsAt F n at line ≡ parsed es at′ line′ → (func : ExprContext) (line₀ : ℕ) → Reads cap (8 * sizes es + 1) (compile-funcargs g func line₀ n) Any at line at′ line′
-      unfolding exprsAt compile-funcargs
+    module _ (g : Step ExprContext) (F : ℕ → ℕ → Parsed Expr) (lowers : (a : Expr) (at line at′ line′ : ℕ) → F at line ≡ parsed a at′ line′ → Reads R cap (cost R a) g (kept R) at line at′ line′ Any) where
+      args-at : (n : ℕ) (es : Exprs) (at line at′ line′ : ℕ) → exprsAt F n at line ≡ parsed es at′ line′ → (func : ExprContext) (line₀ : ℕ) → Reads R cap (costs R es + 5 * word R) (compile-funcargs g func line₀ n) (kept R) at line at′ line′ Any
+      unfolding exprsAt compile-funcargs costs
       args-at zero es at line at′ line′ e func line₀ =
           let w = same-parsed no-more es at line at′ line′ e in
-          moved (stays (takes-closed-call func line₀) at line) (w .1 .0) (w .1 .1) (omega arith)
+          moved (stays (holding (4 * word R) (spends-closed-call func line₀)) at line) (w .1 .0) (w .1 .1) (omega arith)
       args-at (suc zero) es at line at′ line′ e func line₀ =
           let v = invert (F at line) _ es at′ line′ e in
           let w = same-parsed (more (v .value) no-more) es (v .place) (v .own-line) at′ line′ (v .then) in
-          moved (reads-then (lowers (v .value) at line (v .place) (v .own-line) (v .first)) (λ e₁ _. stays (takes-last-argument func line₀ e₁) (v .place) (v .own-line))) (w .1 .0) (w .1 .1)
-          (omega (arith, some-node (v .value), size-none, size-more (v .value) no-more, ap sizes (w .0)))
+          moved (reads-then (5 * word R) (lowers (v .value) at line (v .place) (v .own-line) (v .first)) (λ e₁ _. more-of (stays (holding (4 * word R) (spends-last-argument func line₀ e₁)) (v .place) (v .own-line)) (omega arith))) (w .1 .0) (w .1 .1)
+          (omega (arith, ap (costs R) (w .0)))
       args-at (suc (suc n)) es at line at′ line′ e func line₀ =
           let v = invert (F at line) _ es at′ line′ e in
           let u = invert (exprsAt F (suc n) (v .place) (v .own-line)) _ es at′ line′ (v .then) in
           let w = same-parsed (more (v .value) (u .value)) es (u .place) (u .own-line) at′ line′ (u .then) in
-          moved (reads-then (lowers (v .value) at line (v .place) (v .own-line) (v .first)) (λ e₁ _. reads-then (stays (takes-nextreg e₁) (v .place) (v .own-line)) (λ e₂ _. args-at (suc n) (u .value) (v .place) (v .own-line) (u .place) (u .own-line) (u .first) func line₀))) (w .1 .0) (w .1 .1)
-          (omega (arith, some-node (v .value), size-more (v .value) (u .value), ap sizes (w .0)))
+          let rest = costs R (u .value) + 5 * word R in
+          moved (reads-then rest (lowers (v .value) at line (v .place) (v .own-line) (v .first)) (λ e₁ _. reads-then rest (stays (takes-nextreg e₁) (v .place) (v .own-line)) (λ e₂ _. more-of (args-at (suc n) (u .value) (v .place) (v .own-line) (u .place) (u .own-line) (u .first) func line₀) (omega arith)))) (w .1 .0) (w .1 .1)
+          (omega (arith, ap (costs R) (w .0)))
 
-      head-at : (sp : Span) (h : Head) (d : Expr) (at line at′ line′ : ℕ) → rest F sp h at line ≡ parsed d at′ line′ → Reads cap (cost d) (compile-head chunk hd g h) Any at line at′ line′
-      unfolding rest compile-head
+      head-at : (sp : Span) (h : Head) (d : Expr) (at line at′ line′ : ℕ) → rest F sp h at line ≡ parsed d at′ line′ → Reads R cap (cost R d) (compile-head chunk hd g h) (kept R) at line at′ line′ Any
+      unfolding rest compile-head cost
       head-at sp (head.Leaf x) d at line at′ line′ e =
           let w = same-parsed (leaf-node sp x) d at line at′ line′ e in
-          moved (stays (takes-leaf x) at line) (w .1 .0) (w .1 .1) (omega (arith, size-leaf sp x, ap size (w .0)))
+          moved (stays (holding (4 * word R) (spends-leaf x)) at line) (w .1 .0) (w .1 .1) (omega (arith, ap (cost R) (w .0)))
       head-at sp (head.One o) d at line at′ line′ e =
           let v = invert (F at line) _ d at′ line′ e in
           let w = same-parsed (one-node sp o (v .value)) d (v .place) (v .own-line) at′ line′ (v .then) in
-          moved (reads-then (lowers (v .value) at line (v .place) (v .own-line) (v .first)) (λ e₁ _. stays (takes-after-one o e₁) (v .place) (v .own-line))) (w .1 .0) (w .1 .1)
-          (omega (arith, some-node (v .value), size-one sp o (v .value), ap size (w .0)))
+          moved (reads-then (8 * word R + own-one R o) (lowers (v .value) at line (v .place) (v .own-line) (v .first)) (λ e₁ _. more-of (stays (holding (4 * word R) (spends-after-one o e₁)) (v .place) (v .own-line)) (omega arith))) (w .1 .0) (w .1 .1)
+          (omega (arith, ap (cost R) (w .0)))
       head-at sp (head.Two t) d at line at′ line′ e =
           let v = invert (F at line) _ d at′ line′ e in
           let u = invert (F (v .place) (v .own-line)) _ d at′ line′ (v .then) in
           let w = same-parsed (two-node sp t (v .value) (u .value)) d (u .place) (u .own-line) at′ line′ (u .then) in
-          moved (reads-then (lowers (v .value) at line (v .place) (v .own-line) (v .first)) (λ e₁ _. reads-then (stays (gives-between t e₁) (v .place) (v .own-line)) (λ e₂ r.
-          reads-then (lowers (u .value) (v .place) (v .own-line) (u .place) (u .own-line) (u .first)) (λ e₃ _. stays (takes-after-two t e₂ e₃ r) (u .place) (u .own-line))))) (w .1 .0) (w .1 .1)
-          (omega (arith, some-node (v .value), some-node (u .value), size-two sp t (v .value) (u .value), ap size (w .0)))
+          let both = cost R (u .value) + 8 * word R in
+          moved (reads-then both (lowers (v .value) at line (v .place) (v .own-line) (v .first)) (λ e₁ _. reads-then both (stays (spends-between t e₁) (v .place) (v .own-line)) (λ e₂ r.
+          more-of (reads-then (first-owes R t e₂ + 8 * word R) (lowers (u .value) (v .place) (v .own-line) (u .place) (u .own-line) (u .first)) (λ e₃ _. more-of (stays (holding (4 * word R) (spends-after-two t e₂ e₃ r)) (u .place) (u .own-line)) (omega arith))) (omega arith)))) (w .1 .0) (w .1 .1)
+          (omega (arith, ap (cost R) (w .0)))
       head-at sp (head.Many k n) d at line at′ line′ e =
           let v = invert (F at line) _ d at′ line′ e in
           let u = invert (exprsAt F n (v .place) (v .own-line)) _ d at′ line′ (v .then) in
           let w = same-parsed (many-node sp k (v .value) (u .value)) d (u .place) (u .own-line) at′ line′ (u .then) in
-          moved (reads-then (lowers (v .value) at line (v .place) (v .own-line) (v .first)) (λ e₁ _. reads-then (stays (takes-callee k e₁) (v .place) (v .own-line)) (λ func _. reads-then (stays takes-get (v .place) (v .own-line)) (λ s _.
-          args-at n (u .value) (v .place) (v .own-line) (u .place) (u .own-line) (u .first) func (s .line))))) (w .1 .0) (w .1 .1)
-          (omega (arith, some-node (v .value), size-many sp k (v .value) (u .value), ap size (w .0)))
+          let rest = costs R (u .value) + 5 * word R in
+          moved (reads-then (rest + (own-many R k + 3 * word R)) (lowers (v .value) at line (v .place) (v .own-line) (v .first)) (λ e₁ _. more-of (reads-then rest (stays (takes-callee k e₁) (v .place) (v .own-line)) (λ func _. reads-then rest (stays takes-get (v .place) (v .own-line)) (λ s _.
+          more-of (args-at n (u .value) (v .place) (v .own-line) (u .place) (u .own-line) (u .first) func (s .line)) (omega arith)))) (omega arith))) (w .1 .0) (w .1 .1)
+          (omega (arith, ap (cost R) (w .0)))
 
-    pub expr-at : (left : ℕ) (a : Expr) (at line at′ line′ : ℕ) → exprAt chunk (hd .varargs) left at line ≡ parsed a at′ line′ → Reads cap (cost a) (compile-expr chunk hd left) Any at line at′ line′
+    pub expr-at : (left : ℕ) (a : Expr) (at line at′ line′ : ℕ) → exprAt chunk (hd .varargs) left at line ≡ parsed a at′ line′ → Reads R cap (cost R a) (compile-expr chunk hd left) (kept R) at line at′ line′ Any
     unfolding exprAt
     expr-at zero a at line at′ line′ e s m p q k = absurd (let y : _≡_ {A = ℕ} 0 1 = cc in omega arith)
     expr-at (suc left) a at line at′ line′ e s m p q k =
         let v = node-is (nodeAt chunk (hd .varargs) at line) _ a at′ line′ e in
         let n = v .0 in
         let here : nodeAt chunk (hd .varargs) (s .at) (s .line) ≡ read.Node n = rw (p, q) (v .1 .0) in
-        rw (expr-is chunk hd left s m n here) (head-at (compile-expr chunk hd left) (exprAt chunk (hd .varargs) left) (expr-at left) (record { line = n .line; place = at; nesting = maxNesting - left }) (n .head) a (n .next) (n .line) at′ line′ (v .1 .1) (with-place (n .next) (n .line) s) m refl refl k)
+        let same : used R (with-place (n .next) (n .line) s) ≡ used R s = used-same R s (with-place (n .next) (n .line) s) refl refl in
+        rw (expr-is chunk hd left s m n here) (later (head-at (compile-expr chunk hd left) (exprAt chunk (hd .varargs) left) (expr-at left) (record { line = n .line; place = at; nesting = maxNesting - left }) (n .head) a (n .next) (n .line) at′ line′ (v .1 .1) (with-place (n .next) (n .line) s) m refl refl k) (omega (arith, same)) refl refl)

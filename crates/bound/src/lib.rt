@@ -1,1 +1,1 @@
-// Proof only: a lowering of n nodes holds at most 8n + 1 words at any moment.
+// Proof only: how many words, constants and bytes of text a lowering needs at most, and so how much to lend.

@@ -1,4 +1,4 @@
--- What is known of an accepted chunk: its header, its names, as many as it says, and its formulas, parsed from behind the header. Read off `formOf` and `headerAt` case by case.
+-- What is known of an accepted chunk: its header, its names, as many as it says, and its formulas, parsed from behind the header to the chunk's end. Read off `formOf` and `headerAt` case by case.
 use Prim.Native.Nat.{ℕ, zero, suc, _/_, _%_}
 use mathlib.Core.Bool.{Bool, true, false}
 use mathlib.Core.Path.{_≡_, refl, ap, _∙_, subst}
@@ -6,6 +6,7 @@ use mathlib.Core.List.{List}
 use native.Mathlib.Omega.{arith}
 use lib.ListN.{length}
 use lib.Dec.{eqb, leb}
+use borrow.Author.Tests.{eqb-true}
 use Rattle.refusals.specs.declared.Refusal.{Refusal}
 use Rattle.refusals.specs.declared.Refusal.the-variants as refusal
 use Rattle.cursor.specs.Fields.{byteAt, textAt, endOf}
@@ -30,15 +31,16 @@ pub record Accepted (s : List ℕ) (c : Chunk) : Type 0 where
   pub line : ℕ
   pub formulas : exprsAt (exprAt s (head .varargs) maxNesting) (head .formulas) (head .next) 1 ≡ parsed (c .formulas) at line
   pub names-are : c .names ≡ namesOf (namesAt s (head .locals) (head .names))
+  pub whole : at ≡ length s
 
 module _ (s : List ℕ) (c : Chunk) where
   ended-as : (h : Header) (fs : Exprs) (at line : ℕ) → headerAt s ≡ header.Header h → exprsAt (exprAt s (h .varargs) maxNesting) (h .formulas) (h .next) 1 ≡ parsed fs at line → ended s h fs at ≡ formed c → Accepted s c
   unfolding ended
-  ended-as h fs at line hh e z = go (eqb at (length s)) z
+  ended-as h fs at line hh e z = go (eqb at (length s)) refl z
     where
-      go : (t : Bool) → elim t as (λ (_ : Bool). Formed) [ true ↦ formed (record { names = namesOf (namesAt s (h .locals) (h .names)); varargs = h .varargs; formulas = fs }) | false ↦ unformed refusal.Trailing ] ≡ formed c → Accepted s c
-      go false y = absurd (let w : _≡_ {A = ℕ} 0 1 = cc in omega arith)
-      go true y = record { head = h; is-head = hh; at = at; line = line; formulas = e ∙ ap (λ z. parsed z at line) cc; names-are = cc }
+      go : (t : Bool) → eqb at (length s) ≡ t → elim t as (λ (_ : Bool). Formed) [ true ↦ formed (record { names = namesOf (namesAt s (h .locals) (h .names)); varargs = h .varargs; formulas = fs }) | false ↦ unformed refusal.Trailing ] ≡ formed c → Accepted s c
+      go false q y = absurd (let w : _≡_ {A = ℕ} 0 1 = cc in omega arith)
+      go true q y = record { head = h; is-head = hh; at = at; line = line; formulas = e ∙ ap (λ z. parsed z at line) cc; names-are = cc; whole = eqb-true at (length s) q }
 
   exprs-as : (h : Header) → headerAt s ≡ header.Header h → (r : Parsed Exprs) → exprsAt (exprAt s (h .varargs) maxNesting) (h .formulas) (h .next) 1 ≡ r → withExprs r (ended s h) ≡ formed c → Accepted s c
   exprs-as h hh (parsed fs at line) e z = ended-as h fs at line hh e z

@@ -35,11 +35,11 @@ unfolding andThen
 then-pick true n s₁ m = refl
 then-pick false n s₁ m = refl
 
-reserve-is : (n : ℕ) (s : State) (m : Buffers) → reserve-regs n s m ≡ pick (leb (s .free + n) maxStack) (done tt (with-free (s .free + n) (with-frame (max (s .frame) (s .free + n)) s)) m) (refused Registers m)
+pub reserve-is : (n : ℕ) (s : State) (m : Buffers) → reserve-regs n s m ≡ pick (leb (s .free + n) maxStack) (done tt (with-free (s .free + n) (with-frame (max (s .frame) (s .free + n)) s)) m) (refused Registers m)
 unfolding reserve-regs andThen
 reserve-is n s m = ap (λ r. andThen r (λ _ s m. done (tt {0}) (with-free (s .free + n) s) m)) (check-is n s m) ∙ then-pick (leb (s .free + n) maxStack) n (with-frame (max (s .frame) (s .free + n)) s) m
 
-alloc-is : (s : State) (m : Buffers) → alloc-reg s m ≡ andThen (reserve-regs 1 s m) (λ _ s₁ m₁. done (s .free) s₁ m₁)
+pub alloc-is : (s : State) (m : Buffers) → alloc-reg s m ≡ andThen (reserve-regs 1 s m) (λ _ s₁ m₁. done (s .free) s₁ m₁)
 unfolding alloc-reg andThen
 alloc-is s m = refl
 

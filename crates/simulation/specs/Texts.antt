@@ -63,7 +63,7 @@ module _ (s : List ℕ) where
   ShortNode (read.Refused r) = Unit {0}
 
 -- at most n entries of a list
-take-at-most : (n : ℕ) (l : List ℕ) → length (take n l) ≤ n
+pub take-at-most : (n : ℕ) (l : List ℕ) → length (take n l) ≤ n
 take-at-most zero l = omega arith
 take-at-most (suc n) [] = omega arith
 take-at-most (suc n) (x ∷ l) = let z : length (take n l) ≤ n = take-at-most n l in omega arith
