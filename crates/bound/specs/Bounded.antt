@@ -25,7 +25,7 @@ use Rattle.model.specs.Lowering.{Sizes, cleared, start, formulas, lower-chunk, 
 use Rattle.simulation.specs.Parsing.{invert, same-parsed}
 use Rattle.faithful.specs.Accepted.{Accepted}
 use Rattle.faithful.specs.Cases.{lowered-cases}
-use Rattle.bound.specs.Takes.{Resource, words, entries, text, used, word, want, Room, Leaves, left, none, Any, early, takes-skip}
+use Rattle.bound.specs.Takes.{Resource, words, entries, text, used, per-word, want, Room, Leaves, left, none, Any, not-wanting, takes-skip}
 use Rattle.bound.specs.Emission.{takes-emit, takes-reserve-regs}
 use Rattle.bound.specs.Expressions.{own-leaf, own-one, own-many, cost, costs, kept, Reads, stays, reads-then, moved, more-of, takes-nextreg, expr-at}
 use Rattle.bound.specs.Texts.{exprs-behind, expr-behind}
@@ -122,10 +122,10 @@ module _ (z : Sizes) (chunk : List ℕ) where
     abbrev end : Result (Unit {0})
     end = lower-chunk chunk (a .head) (start (a .head .next) (a .head .locals)) (cleared z)
 
-    whole : (R : Resource) (cap : ℕ) → Room R cap (cleared z) → After R cap (costs R (c .formulas) + word R) end
+    whole : (R : Resource) (cap : ℕ) → Room R cap (cleared z) → After R cap (costs R (c .formulas) + per-word R) end
     unfolding lower-chunk
-    whole R cap l = after (moved (reads-then (costs R (c .formulas) + word R) (stays (takes-reserve-regs (a .head .locals)) (a .head .next) 1) (λ _ _.
-        more-of (reads-then (word R) (formulas-at (compile-expr chunk (a .head) maxNesting) (exprAt chunk (a .head .varargs) maxNesting) (expr-at chunk (a .head) maxNesting) (a .head .formulas) (c .formulas) (a .head .next) 1 (a .at) (a .line) (a .formulas)) (λ _ _.
+    whole R cap l = after (moved (reads-then (costs R (c .formulas) + per-word R) (stays (takes-reserve-regs (a .head .locals)) (a .head .next) 1) (λ _ _.
+        more-of (reads-then (per-word R) (formulas-at (compile-expr chunk (a .head) maxNesting) (exprAt chunk (a .head .varargs) maxNesting) (expr-at chunk (a .head) maxNesting) (a .head .formulas) (c .formulas) (a .head .next) 1 (a .at) (a .line) (a .formulas)) (λ _ _.
         more-of (reads-then 0 (stays (takes-emit _) (a .at) (a .line)) (λ _ _. stays takes-skip (a .at) (a .line))) (omega arith))) (omega arith))) refl refl (omega arith) (start (a .head .next) (a .head .locals)) (cleared z) refl refl l) (used-start R (a .head .next) (a .head .locals))
 
     texts : costs text (c .formulas) ≤ length chunk
@@ -135,7 +135,7 @@ module _ (z : Sizes) (chunk : List ℕ) where
     same-chunk : (c′ : Chunk) → formOf chunk ≡ formed c′ → c′ ≡ c
     same-chunk c′ e = cc
 
-    end-bounded : (r : Result (Unit {0})) → ((R : Resource) (cap : ℕ) → Room R cap (cleared z) → After R cap (costs R (c .formulas) + word R) r) → Bounded z chunk (ended z (placesOf (spansOf (c .formulas))) r .answer)
+    end-bounded : (r : Result (Unit {0})) → ((R : Resource) (cap : ℕ) → Room R cap (cleared z) → After R cap (costs R (c .formulas) + per-word R) r) → Bounded z chunk (ended z (placesOf (spansOf (c .formulas))) r .answer)
     end-bounded (done u s m) h = λ c′ e. let n : nodes c′ ≡ nodes c = ap nodes (same-chunk c′ e) in record {
       words = omega (arith, h words 0 (omega arith, (omega arith, omega arith)), all-by-nodes (c .formulas) .0, n);
       constants = omega (arith, h entries 0 (omega arith, (omega arith, omega arith)), all-by-nodes (c .formulas) .1, n);
@@ -153,7 +153,7 @@ module _ (z : Sizes) (chunk : List ℕ) where
 
   -- a scratch that is too short is refused as such
   no-scratch : (c : Chunk) → Enough z chunk c Scratch
-  no-scratch c = record { words = λ _ _ _. early words Scratch (omega arith); constants = λ _ _ _. early entries Scratch (omega arith); text = λ _. early text Scratch (omega arith) }
+  no-scratch c = record { words = λ _ _ _. not-wanting words Scratch (omega arith); constants = λ _ _ _. not-wanting entries Scratch (omega arith); text = λ _. not-wanting text Scratch (omega arith) }
 
 -- for words, document 02's #107: with n up to 16,383, 8n + 1 is no more than 131,071
 pub bounded : (z : Sizes) (chunk : List ℕ) → Bounded z chunk (lowered z chunk .answer)

@@ -15,7 +15,7 @@ use Rattle.model.specs.Steps.{return}
 use Rattle.model.specs.Emission.{with-pc}
 use Rattle.model.specs.Jumps.{get-jump-control}
 use Rattle.model.specs.Conditions.{bit, pop, invertjump, is-not, jumponcond, jump-if-false, jump-if-true, goiftrue, goiffalse, emit-not, negate, code-not}
-use Rattle.bound.specs.Takes.{Resource, words, entries, text, used, word, plain, left, Spends, Takes, Any, at-most, spends-then, takes-then, free-then, then-free, spends-return, takes-return, takes-words, gives-if, room-same}
+use Rattle.bound.specs.Takes.{Resource, words, entries, text, used, per-word, per-constant, left, Spends, Takes, Any, at-most, spends-then, takes-then, free-then, then-free, spends-return, takes-return, takes-words, gives-if, room-same}
 use Rattle.bound.specs.Emission.{takes-change-word, takes-emit, takes-concat, takes-remove, takes-emit-jump, takes-patch-to-here}
 use Rattle.bound.specs.Discharge.{due, owes, value, dv-then, takes-free-expr, takes-discharge2anyreg}
 
@@ -33,7 +33,7 @@ module _ {R : Resource} {cap : ℕ} where
   unfolding invertjump
   takes-invertjump e = free-then takes-words (λ code. takes-change-word (get-jump-control code (e .info)) (λ w. setAOf w (bit (eqb (aOf w) 0))))
 
-  takes-jumponcond : (e : ExprContext) (cond : Bool) → Takes R cap (value R e + 2 * word R) (jumponcond e cond)
+  takes-jumponcond : (e : ExprContext) (cond : Bool) → Takes R cap (value R e + 2 * per-word R) (jumponcond e cond)
   unfolding jumponcond
   takes-jumponcond e cond = free-then takes-words (λ code.
       gives-if (is-not code e) (λ _. at-most (free-then takes-pop (λ _. takes-then (takes-emit _) (λ _. takes-emit-jump))) (omega arith))
@@ -43,7 +43,7 @@ module _ {R : Resource} {cap : ℕ} where
   takes-none : {A : Type 0} {c : ℕ} (a : A) → Takes R cap c (return a)
   takes-none a = at-most (takes-return a) (omega arith)
 
-  takes-jump-if-false : (k : ExprKind) (e : ExprContext) → Takes R cap (value R e + 2 * word R) (jump-if-false k e)
+  takes-jump-if-false : (k : ExprKind) (e : ExprContext) → Takes R cap (value R e + 2 * per-word R) (jump-if-false k e)
   unfolding jump-if-false
   takes-jump-if-false Nil e = takes-jumponcond e false
   takes-jump-if-false True e = takes-none 0
@@ -59,7 +59,7 @@ module _ {R : Resource} {cap : ℕ} where
   takes-jump-if-false Call e = takes-jumponcond e false
   takes-jump-if-false VarArg e = takes-jumponcond e false
 
-  takes-jump-if-true : (k : ExprKind) (e : ExprContext) → Takes R cap (value R e + 2 * word R) (jump-if-true k e)
+  takes-jump-if-true : (k : ExprKind) (e : ExprContext) → Takes R cap (value R e + 2 * per-word R) (jump-if-true k e)
   unfolding jump-if-true
   takes-jump-if-true Nil e = takes-none 0
   takes-jump-if-true True e = at-most takes-emit-jump (omega arith)
@@ -75,16 +75,16 @@ module _ {R : Resource} {cap : ℕ} where
   takes-jump-if-true Call e = takes-jumponcond e true
   takes-jump-if-true VarArg e = takes-jumponcond e true
 
-  pub takes-goiftrue : (e : ExprContext) → Takes R cap (value R e + 2 * word R) (goiftrue e)
+  pub takes-goiftrue : (e : ExprContext) → Takes R cap (value R e + 2 * per-word R) (goiftrue e)
   unfolding goiftrue
-  takes-goiftrue e = dv-then e (2 * word R) (λ e₁ h. then-free (takes-jump-if-false (e₁ .kind) e₁) (λ list. free-then (takes-concat (e₁ .f) list) (λ f. free-then (takes-patch-to-here (e₁ .t)) (λ _. takes-return _))))
+  takes-goiftrue e = dv-then e (2 * per-word R) (λ e₁ h. then-free (takes-jump-if-false (e₁ .kind) e₁) (λ list. free-then (takes-concat (e₁ .f) list) (λ f. free-then (takes-patch-to-here (e₁ .t)) (λ _. takes-return _))))
 
-  pub takes-goiffalse : (e : ExprContext) → Takes R cap (value R e + 2 * word R) (goiffalse e)
+  pub takes-goiffalse : (e : ExprContext) → Takes R cap (value R e + 2 * per-word R) (goiffalse e)
   unfolding goiffalse
-  takes-goiffalse e = dv-then e (2 * word R) (λ e₁ h. then-free (takes-jump-if-true (e₁ .kind) e₁) (λ list. free-then (takes-concat (e₁ .t) list) (λ t. free-then (takes-patch-to-here (e₁ .f)) (λ _. takes-return _))))
+  takes-goiffalse e = dv-then e (2 * per-word R) (λ e₁ h. then-free (takes-jump-if-true (e₁ .kind) e₁) (λ list. free-then (takes-concat (e₁ .t) list) (λ t. free-then (takes-patch-to-here (e₁ .f)) (λ _. takes-return _))))
 
   -- a word whose register is open owes nothing
-  spends-emit-not : (e : ExprContext) → Spends R cap (value R e + word R) (emit-not e) (owes R) Any
+  spends-emit-not : (e : ExprContext) → Spends R cap (value R e + per-word R) (emit-not e) (owes R) Any
   unfolding emit-not
   spends-emit-not e = at-most (takes-then (takes-discharge2anyreg e) (λ e₁. free-then (takes-free-expr e₁) (λ _. takes-then (takes-emit _) (λ pc. at-most {d = 0} (spends-return (with-kind Relocable pc e₁) tt) (omega arith))))) (omega arith)
 
@@ -93,10 +93,10 @@ module _ {R : Resource} {cap : ℕ} where
   spends-kept e h = at-most (spends-return e tt) h
 
   -- a truth value
-  spends-truth : (k : ExprKind) (e : ExprContext) → due R k ≡ plain R → Spends R cap (value R e + word R + plain R) (return (with-kind k (e .info) e)) (owes R) Any
+  spends-truth : (k : ExprKind) (e : ExprContext) → due R k ≡ per-constant R → Spends R cap (value R e + per-word R + per-constant R) (return (with-kind k (e .info) e)) (owes R) Any
   spends-truth k e h = spends-kept _ (omega (arith, h))
 
-  spends-negate : (k : ExprKind) (e : ExprContext) → Spends R cap (value R e + word R + plain R) (negate k e) (owes R) Any
+  spends-negate : (k : ExprKind) (e : ExprContext) → Spends R cap (value R e + per-word R + per-constant R) (negate k e) (owes R) Any
   unfolding negate
   spends-negate Nil e = spends-truth True e refl
   spends-negate True e = spends-truth False e refl
@@ -112,6 +112,6 @@ module _ {R : Resource} {cap : ℕ} where
   spends-negate Call e = spends-kept e (omega arith)
   spends-negate VarArg e = spends-kept e (omega arith)
 
-  pub spends-code-not : (e : ExprContext) → Spends R cap (value R e + word R + plain R) (code-not e) (owes R) Any
+  pub spends-code-not : (e : ExprContext) → Spends R cap (value R e + per-word R + per-constant R) (code-not e) (owes R) Any
   unfolding code-not
-  spends-code-not e = at-most (dv-then e (word R + plain R) (λ e₁ h. at-most (spends-then 0 (spends-negate (e₁ .kind) e₁) (λ e₂ _. at-most (free-then (takes-remove (e₂ .t)) (λ _. free-then (takes-remove (e₂ .f)) (λ _. spends-return (with-jumps (e₂ .f) (e₂ .t) e₂) tt))) (omega arith))) (omega arith))) (omega arith)
+  spends-code-not e = at-most (dv-then e (per-word R + per-constant R) (λ e₁ h. at-most (spends-then 0 (spends-negate (e₁ .kind) e₁) (λ e₂ _. at-most (free-then (takes-remove (e₂ .t)) (λ _. free-then (takes-remove (e₂ .f)) (λ _. spends-return (with-jumps (e₂ .f) (e₂ .t) e₂) tt))) (omega arith))) (omega arith))) (omega arith)

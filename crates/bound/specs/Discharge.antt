@@ -16,34 +16,34 @@ use Rattle.model.specs.Descriptor.{with-kind, with-jumps, has-jumps, tagOf, isK
 use Rattle.model.specs.Steps.{Step, andThen, _>>=_, _>>_, return, when}
 use Rattle.model.specs.Jumps.{jump-list, need-value}
 use Rattle.model.specs.Discharge.{discharge-kind, discharge-vars, free-expr, number-constant, move, load-kind, discharge2reg, discharge2anyreg, land, load-both, settle, join-jump, exp2reg, exp2nextreg, exp2anyreg}
-use Rattle.bound.specs.Takes.{Resource, word, plain, left, Spends, Gives, Takes, at-most, spends-less, takes, spends-then, gives-then, takes-then, free-then, then-free, spends-return, gives-return, takes-return, takes-skip, takes-get, takes-words, gives-if, takes-when}
+use Rattle.bound.specs.Takes.{Resource, per-word, per-constant, left, Spends, Gives, Takes, at-most, spends-less, takes, spends-then, gives-then, takes-then, free-then, then-free, spends-return, gives-return, takes-return, takes-skip, takes-get, takes-words, gives-if, takes-when}
 use Rattle.bound.specs.Emission.{takes-add-constant, takes-change-word, takes-emit, takes-concat, takes-patch-list, takes-emit-jump, takes-patch-to-here, takes-get-label, takes-code-label, takes-emit-nil, takes-alloc-reg, takes-free-reg}
 
 -- ---- prices
 
 -- the word that loads a value of this kind
 abbrev pub load : Resource → ExprKind → ℕ
-load R Nil = word R
-load R True = word R
-load R False = word R
-load R K = word R
-load R KNum = word R
-load R Local = word R
-load R Global = word R
-load R Indexed = word R
+load R Nil = per-word R
+load R True = per-word R
+load R False = per-word R
+load R K = per-word R
+load R KNum = per-word R
+load R Local = per-word R
+load R Global = per-word R
+load R Indexed = per-word R
 load R Jmp = 0
 load R Relocable = 0
-load R NonReloc = word R
-load R Call = word R
+load R NonReloc = per-word R
+load R Call = per-word R
 load R VarArg = 0
 
 -- the constant that it may become
 abbrev pub due : Resource → ExprKind → ℕ
-due R Nil = plain R
-due R True = plain R
-due R False = plain R
+due R Nil = per-constant R
+due R True = per-constant R
+due R False = per-constant R
 due R K = 0
-due R KNum = plain R
+due R KNum = per-constant R
 due R Local = 0
 due R Global = 0
 due R Indexed = 0
@@ -55,7 +55,7 @@ due R VarArg = 0
 
 -- a jump over two loads, and the loads
 abbrev three : Resource → Bool → ℕ
-three R true = 3 * word R
+three R true = 3 * per-word R
 three R false = 0
 
 abbrev pending : ExprContext → Bool
@@ -76,14 +76,14 @@ brings R e = value R e + loads R e
 
 -- one word brings it, and what it owes
 abbrev pub Light : Resource → ExprContext → Type 0
-Light R e = brings R e ≤ word R + owes R e
+Light R e = brings R e ≤ per-word R + owes R e
 
 -- in a register, without jumps
 pub record Bare (e : ExprContext) : Type 0 where
   pub kind : e .kind ≡ NonReloc
   pub jumps : has-jumps e ≡ false
 
-pub load-most : (R : Resource) (k : ExprKind) → load R k ≤ word R
+pub load-most : (R : Resource) (k : ExprKind) → load R k ≤ per-word R
 load-most R Nil = omega arith
 load-most R True = omega arith
 load-most R False = omega arith
@@ -103,15 +103,15 @@ three-or R true b = omega arith
 three-or R false true = omega arith
 three-or R false false = omega arith
 
-three-true : (R : Resource) (a b : Bool) → b ≡ true → 3 * word R ≤ three R (a || b)
+three-true : (R : Resource) (a b : Bool) → b ≡ true → 3 * per-word R ≤ three R (a || b)
 three-true R true b h = omega arith
 three-true R false b h = rw h (omega arith)
 
-three-most : (R : Resource) (b : Bool) → three R b ≤ 3 * word R
+three-most : (R : Resource) (b : Bool) → three R b ≤ 3 * per-word R
 three-most R true = omega arith
 three-most R false = omega arith
 
-pub brings-most : (R : Resource) (e : ExprContext) → brings R e ≤ 4 * word R + owes R e
+pub brings-most : (R : Resource) (e : ExprContext) → brings R e ≤ 4 * per-word R + owes R e
 brings-most R e = omega (arith, load-most R (e .kind), three-most R (pending e))
 
 -- without jumps, and no comparison
@@ -174,7 +174,7 @@ module _ {R : Resource} {cap : ℕ} where
   gives-dv Jmp e p = spends-return e (same e)
   gives-dv Relocable e p = spends-return e (same e)
   gives-dv NonReloc e p = spends-return e (same e)
-  gives-dv Call e p = at-most (free-then (takes-change-word (e .info) (λ w. setCOf w 2)) (λ _. free-then takes-words (λ code. at-most {d = word R} (spends-return _ (same-kind NonReloc _ e refl (rw p refl))) (omega arith)))) (omega (arith, ap (load R) p))
+  gives-dv Call e p = at-most (free-then (takes-change-word (e .info) (λ w. setCOf w 2)) (λ _. free-then takes-words (λ code. at-most {d = per-word R} (spends-return _ (same-kind NonReloc _ e refl (rw p refl))) (omega arith)))) (omega (arith, ap (load R) p))
   gives-dv VarArg e p = at-most (free-then (takes-change-word (e .info) (λ w. setBOf w 2)) (λ _. at-most {d = 0} (spends-return _ (same-kind Relocable (e .info) e refl (rw p refl))) (omega arith))) (omega arith)
 
   -- what follows `discharge_vars` may take what its descriptor's value costs
@@ -188,10 +188,10 @@ module _ {R : Resource} {cap : ℕ} where
   unfolding free-expr
   takes-free-expr e = takes-when (isKind NonReloc e) (takes-free-reg (e .info))
 
-  takes-number-constant : (e : ExprContext) → Takes R cap (plain R) (number-constant e)
+  takes-number-constant : (e : ExprContext) → Takes R cap (per-constant R) (number-constant e)
   takes-number-constant e = takes-add-constant [] (val.Num (e .nval) (e .bits))
 
-  takes-move : (to from : ℕ) → Takes R cap (word R) (move to from)
+  takes-move : (to from : ℕ) → Takes R cap (per-word R) (move to from)
   takes-move to from = then-free (takes-emit _) (λ _. takes-skip)
 
   -- a value that was loaded
@@ -232,22 +232,22 @@ module _ {R : Resource} {cap : ℕ} where
   unfolding land
   takes-land e reg final on-false on-true = free-then (takes-patch-list (e .f) final reg on-false) (λ _. takes-patch-list (e .t) final reg on-true)
 
-  takes-load-both : (e : ExprContext) (reg : ℕ) → Takes R cap (3 * word R) (load-both e reg)
+  takes-load-both : (e : ExprContext) (reg : ℕ) → Takes R cap (3 * per-word R) (load-both e reg)
   unfolding load-both
   takes-load-both e reg =
-      at-most (takes-then (gives-if {c = word R} (isKind Jmp e) (λ _. at-most (takes-return 0) (omega arith)) (λ _. takes-emit-jump)) (λ over.
+      at-most (takes-then (gives-if {c = per-word R} (isKind Jmp e) (λ _. at-most (takes-return 0) (omega arith)) (λ _. takes-emit-jump)) (λ over.
       takes-then (takes-code-label reg 0 1) (λ on-false.
       then-free (takes-code-label reg 1 0) (λ on-true.
       free-then (takes-patch-to-here over) (λ _.
       free-then takes-get-label (λ final. takes-land e reg final on-false on-true)))))) (omega arith)
 
-  takes-settle : (e : ExprContext) (reg : ℕ) → Takes R cap (3 * word R) (settle e reg)
+  takes-settle : (e : ExprContext) (reg : ℕ) → Takes R cap (3 * per-word R) (settle e reg)
   unfolding settle
   takes-settle e reg = free-then takes-words (λ code.
       gives-if (need-value (length code) code (e .t) || need-value (length code) code (e .f)) (λ _. takes-load-both e reg) (λ _. at-most (free-then takes-get-label (λ final. takes-land e reg final final final)) (omega arith)))
 
   -- only where there are jumps
-  takes-settled : (b : Bool) {x : Step (Unit {0})} → Takes R cap (3 * word R) x → Takes R cap (three R b) (when b x)
+  takes-settled : (b : Bool) {x : Step (Unit {0})} → Takes R cap (3 * per-word R) x → Takes R cap (three R b) (when b x)
   takes-settled true g = g
   takes-settled false g = takes-skip
 

@@ -31,7 +31,7 @@ use Rattle.model.specs.Emission.{with-table, with-free, with-frame, stored-in, 
 use Rattle.model.specs.Discharge.{discharge-kind, discharge-vars, free-expr, number-constant, load-kind, discharge2reg, exp2reg, exp2nextreg, exp2anyreg, exp2val, small, near, rk-kind, exp2rk}
 use Rattle.labelled.specs.Machine.{pick}
 use Rattle.simulation.specs.Registers.{reserve-is, alloc-is}
-use Rattle.bound.specs.Takes.{Resource, word, plain, used, Room, Leaves, left, none, Spends, Takes, later, at-most, early, spends-less, then-leaves, gives-then, takes-then, free-then, then-free, spends-return, gives-return, takes-get, gives-if, used-same, room-same}
+use Rattle.bound.specs.Takes.{Resource, per-word, per-constant, used, Room, Leaves, left, none, Spends, Takes, later, at-most, not-wanting, spends-less, then-leaves, gives-then, takes-then, free-then, then-free, spends-return, gives-return, takes-get, gives-if, used-same, room-same}
 use Rattle.bound.specs.Emission.{price, Fair, fair-added, takes-add-constant, takes-emit}
 use Rattle.bound.specs.Discharge.{load, due, loads, owes, brings, Light, light, Bare, bare-light, Same, same-kind, loads-same, gives-settled, dv-then, gives-exp2anyreg, gives-again}
 
@@ -100,20 +100,20 @@ is-numeral e p = ap (λ k. with-kind k (e .info) e) p
 
 module _ {R : Resource} {cap : ℕ} where
   -- loaded where it is listed
-  far-load : (e : ExprContext) (reg : ℕ) (s : State) (m : Buffers) (j : ℕ) → find (holds (m .pool) [] (num e)) (s .table .count) (m .kinds) (m .values) ≡ At j → Room R cap m → Leaves R cap (word R) (used R s) (s .at) (s .line) (λ e₁. 0) (Same (numeral e)) (discharge2reg (numeral e) reg s m)
+  far-load : (e : ExprContext) (reg : ℕ) (s : State) (m : Buffers) (j : ℕ) → find (holds (m .pool) [] (num e)) (s .table .count) (m .kinds) (m .values) ≡ At j → Room R cap m → Leaves R cap (per-word R) (used R s) (s .at) (s .line) (λ e₁. 0) (Same (numeral e)) (discharge2reg (numeral e) reg s m)
   unfolding discharge2reg discharge-kind load-kind add-constant andThen
   far-load e reg s m j f l = rw (added-there [] (s .table) (num e) (m .kinds) (m .values) (m .pool) f refl)
       (later (then-free (takes-emit _) (λ _. gives-return (with-kind NonReloc reg (numeral e)) (same-kind NonReloc reg (numeral e) refl refl)) (with-table (s .table) s) m l) (omega (arith, used-same R s (with-table (s .table) s) refl refl)) refl refl)
 
-  far-register : (e : ExprContext) (s : State) (m : Buffers) (j : ℕ) → find (holds (m .pool) [] (num e)) (s .table .count) (m .kinds) (m .values) ≡ At j → has-jumps e ≡ false → Room R cap m → Leaves R cap (word R) (used R s) (s .at) (s .line) (owes R) (Light R) (exp2anyreg (numeral e) s m)
+  far-register : (e : ExprContext) (s : State) (m : Buffers) (j : ℕ) → find (holds (m .pool) [] (num e)) (s .table .count) (m .kinds) (m .values) ≡ At j → has-jumps e ≡ false → Room R cap m → Leaves R cap (per-word R) (used R s) (s .at) (s .line) (owes R) (Light R) (exp2anyreg (numeral e) s m)
   unfolding exp2anyreg exp2nextreg exp2reg discharge-kind free-expr andThen
   far-register e s m j f h l = rw (alloc-is s m, reserve-is 1 s m) (go (leb (s .free + 1) maxStack))
     where
       s₁ : State
       s₁ = with-free (s .free + 1) (with-frame (max (s .frame) (s .free + 1)) s)
 
-      go : (b : Bool) → Leaves R cap (word R) (used R s) (s .at) (s .line) (owes R) (Light R) (andThen (andThen (pick b (done (tt {0}) s₁ m) (refused Registers m)) (λ _ s₂ m₂. done (s .free) s₂ m₂)) (λ reg. exp2reg (numeral e) reg))
-      go false = none Registers m (λ k. early R Registers (omega arith))
+      go : (b : Bool) → Leaves R cap (per-word R) (used R s) (s .at) (s .line) (owes R) (Light R) (andThen (andThen (pick b (done (tt {0}) s₁ m) (refused Registers m)) (λ _ s₂ m₂. done (s .free) s₂ m₂)) (λ reg. exp2reg (numeral e) reg))
+      go false = none Registers m (λ k. not-wanting R Registers (omega arith))
       go true = later (then-leaves 0 (far-load e (s .free) s₁ m j f l) (λ e₁ s₂ m₂ same p q r.
           later (spends-less (gives-settled (numeral e) e₁ (s .free) same) (bare-light R) s₂ m₂ r) (let z : loads R (numeral e) ≡ 0 = rw h refl in omega (arith, z)) p q)) (omega (arith, used-same R s s₁ refl refl)) refl refl
 
@@ -125,10 +125,10 @@ module _ (R : Resource) (cap : ℕ) (e : ExprContext) (p : e .kind ≡ KNum) (h 
   abbrev Adding : Added → List ℕ → List ℕ → List ℕ → Type 0
   Adding r ks vs pool = addedTo [] (s .table) (num e) (m .kinds) (m .values) (m .pool) ≡ out r ks vs pool
 
-  costs : brings R e ≡ word R + plain R
+  costs : brings R e ≡ per-word R + per-constant R
   costs = let z : loads R e ≡ 0 = rw (p, h) refl in omega (arith, z, ap (due R) p, ap (load R) p)
 
-  module _ (i : ℕ) (t : Table) (ks vs pool : List ℕ) (q : Adding (added.At i t) ks vs pool) (f : Fair R cap s (plain R) (added.At i t)) where
+  module _ (i : ℕ) (t : Table) (ks vs pool : List ℕ) (q : Adding (added.At i t) ks vs pool) (f : Fair R cap s (per-constant R) (added.At i t)) where
     abbrev m₁ : Buffers
     m₁ = record { code = m .code; lines = m .lines; kinds = ks; values = vs; pool = pool }
 
@@ -139,9 +139,9 @@ module _ (R : Resource) (cap : ℕ) (e : ExprContext) (p : e .kind ≡ KNum) (h 
     near-or-far true = left (with-kind K i e) (with-table t s) m₁ (light R (with-kind K i e) h refl) (omega (arith, f, costs)) refl refl room
     near-or-far false =
         let found = listed e (s .table) (m .kinds) (m .values) (m .pool) i t ks vs pool q in
-        later (subst (λ y. Leaves R cap (word R) (used R (with-table t s)) (s .at) (s .line) (owes R) (Light R) (exp2anyreg y (with-table t s) m₁)) (sym (is-numeral e p)) (far-register e (with-table t s) m₁ (found .0) (found .1) h room)) (omega (arith, f, costs)) refl refl
+        later (subst (λ y. Leaves R cap (per-word R) (used R (with-table t s)) (s .at) (s .line) (owes R) (Light R) (exp2anyreg y (with-table t s) m₁)) (sym (is-numeral e p)) (far-register e (with-table t s) m₁ (found .0) (found .1) h room)) (omega (arith, f, costs)) refl refl
 
-  brought : (r : Added) (ks vs pool : List ℕ) → Adding r ks vs pool → Fair R cap s (plain R) r → Brought (andThen (stored-in s m (out r ks vs pool)) (λ k. near e k))
+  brought : (r : Added) (ks vs pool : List ℕ) → Adding r ks vs pool → Fair R cap s (per-constant R) r → Brought (andThen (stored-in s m (out r ks vs pool)) (λ k. near e k))
   unfolding near andThen
   brought (added.Refused x) ks vs pool q f = none x _ (λ k. f (omega (arith, k, costs)))
   brought (added.At i t) ks vs pool q f = near-or-far i t ks vs pool q f (leb i maxIndexRk)
@@ -149,7 +149,7 @@ module _ (R : Resource) (cap : ℕ) (e : ExprContext) (p : e .kind ≡ KNum) (h 
 module _ {R : Resource} {cap : ℕ} where
   spends-number : (e : ExprContext) → e .kind ≡ KNum → has-jumps e ≡ false → Spends R cap (brings R e) (number-constant e >>= (λ k. near e k)) (owes R) (Light R)
   unfolding add-constant
-  spends-number e p h s m l = brought R cap e p h s m l _ _ _ _ refl (fair-added R cap s m l [] (num e))
+  spends-number e p h s m l = brought R cap e p h s m l _ _ _ _ refl (fair-added cap s m R l [] (num e))
 
   -- ---- operands
 
@@ -200,10 +200,10 @@ module _ {R : Resource} {cap : ℕ} where
       go false j = dv-then e (loads R e) (λ e₁ h. at-most (spends-rk-kind (e₁ .kind) e₁ refl (h .has ∙ j)) (omega (arith, loads-same R h)))
 
   -- what follows `exp2val` may take what its descriptor costs; a register that was taken costs a word again
-  pub val-then : (e : ExprContext) (d : ℕ) {B : Type 0} {f : ExprContext → Step B} {ψ : B → ℕ} {Q : B → Type 0} → ((e₁ : ExprContext) → Spends R cap (brings R e₁ + d) (f e₁) ψ Q) → Spends R cap (brings R e + word R + d) (exp2val e >>= f) ψ Q
+  pub val-then : (e : ExprContext) (d : ℕ) {B : Type 0} {f : ExprContext → Step B} {ψ : B → ℕ} {Q : B → Type 0} → ((e₁ : ExprContext) → Spends R cap (brings R e₁ + d) (f e₁) ψ Q) → Spends R cap (brings R e + per-word R + d) (exp2val e >>= f) ψ Q
   unfolding exp2val
   val-then e d {B} {f} {ψ} {Q} g = go (has-jumps e)
     where
-      go : (b : Bool) → Spends R cap (brings R e + word R + d) {A = B} ((elim b as (λ (_ : Bool). Step ExprContext) [ true ↦ exp2anyreg e | false ↦ discharge-vars e ]) >>= f) ψ Q
-      go true = at-most (gives-then (gives-exp2anyreg e) (λ e₁ b. at-most {d = word R + d} (g e₁) (omega (arith, bare-light R e₁ b .0, bare-light R e₁ b .1)))) (omega arith)
+      go : (b : Bool) → Spends R cap (brings R e + per-word R + d) {A = B} ((elim b as (λ (_ : Bool). Step ExprContext) [ true ↦ exp2anyreg e | false ↦ discharge-vars e ]) >>= f) ψ Q
+      go true = at-most (gives-then (gives-exp2anyreg e) (λ e₁ b. at-most {d = per-word R + d} (g e₁) (omega (arith, bare-light R e₁ b .0, bare-light R e₁ b .1)))) (omega arith)
       go false = at-most (dv-then e (loads R e + d) (λ e₁ h. at-most (g e₁) (omega (arith, loads-same R h)))) (omega arith)

@@ -5,6 +5,7 @@ use mathlib.Core.Path.{_≡_, refl}
 use native.Mathlib.Omega.{arith}
 use lib.Dec.{eqb, ltb}
 use borrow.Author.Tests.{eqb-true}
+use Rattle.laws.specs.Truth.{and-true}
 use Rattle.instructions.specs.Word.{setBOf}
 use Rattle.opcodes.specs.declared.OpCode.{OpCode}
 use Rattle.opcodes.specs.declared.OpCode.the-variants as op
@@ -20,20 +21,16 @@ use Rattle.model.specs.declared.ExprKind.the-variants.{KNum, Relocable}
 use Rattle.model.specs.declared.ExprContext.{ExprContext}
 use Rattle.model.specs.Descriptor.{newOf, with-kind, with-jumps, tagOf, isKind, is-numeral}
 use Rattle.model.specs.Steps.{Step, return}
-use Rattle.model.specs.Jumps.{word as wordAt, isOp}
+use Rattle.model.specs.Jumps.{word, isOp}
 use Rattle.model.specs.Discharge.{discharge-vars, exp2rk, rk}
 use Rattle.model.specs.Operators.{const-fold, unless-folded, free-in-turn, free-both, emit-arith, code-arith, code-unary, code-concat, far-numeral, compare-operands, emit-comp, code-comp, operand, before-right, code-and, code-or, join-concat, after-right, code-unop}
-use Rattle.bound.specs.Takes.{Resource, word, plain, left, Spends, Takes, Any, at-most, spends-less, takes, spends-then, gives-then, takes-then, free-then, spends-return, takes-words, gives-if}
+use Rattle.bound.specs.Takes.{Resource, per-word, per-constant, left, Spends, Takes, Any, at-most, spends-less, takes, spends-then, gives-then, takes-then, free-then, spends-return, takes-words, gives-if}
 use Rattle.bound.specs.Emission.{takes-change-word, takes-emit, takes-concat, takes-emit-jump}
 use Rattle.bound.specs.Discharge.{load-most, owes, brings, brings-most, Light, light, bare-light, spends-discharge-vars, takes-free-expr, gives-exp2nextreg, gives-exp2anyreg}
 use Rattle.bound.specs.Operands.{spends-exp2rk, val-then}
 use Rattle.bound.specs.Conditions.{takes-goiftrue, takes-goiffalse, spends-code-not}
 
 -- one word brings a numeral, and its constant
-and-true : (a b : Bool) → (a && b) ≡ true → (a ≡ true) × (b ≡ true)
-and-true true b h = (refl, h)
-and-true false b h = absurd (let z : _≡_ {A = ℕ} 0 1 = cc in omega arith)
-
 numeral-light : (R : Resource) (e : ExprContext) → is-numeral e ≡ true → Light R e
 numeral-light R e h =
     let a = and-true (isKind KNum e) (eqb (e .t) 0 && eqb (e .f) 0) h in
@@ -97,19 +94,19 @@ module _ {R : Resource} {cap : ℕ} where
   takes-exp2rk : (e : ExprContext) → Takes R cap (brings R e) (exp2rk e)
   takes-exp2rk e = takes (spends-exp2rk e)
 
-  spends-emit-arith : (o : Arith) (e₁ e₂ : ExprContext) → Spends R cap (brings R e₁ + brings R e₂ + word R) (emit-arith o e₁ e₂) (owes R) Any
+  spends-emit-arith : (o : Arith) (e₁ e₂ : ExprContext) → Spends R cap (brings R e₁ + brings R e₂ + per-word R) (emit-arith o e₁ e₂) (owes R) Any
   unfolding emit-arith
   spends-emit-arith o e₁ e₂ = at-most (takes-then (takes-exp2rk e₂) (λ c. takes-then (takes-exp2rk e₁) (λ b. free-then (takes-free-both b c) (λ _. takes-then (takes-emit _) (λ pc. spends-open {c = 0} b))))) (omega arith)
 
-  spends-code-arith : (o : Arith) (e₁ e₂ : ExprContext) → Light R e₁ → Spends R cap (owes R e₁ + owes R e₂ + 8 * word R) (code-arith o e₁ e₂) (owes R) Any
+  spends-code-arith : (o : Arith) (e₁ e₂ : ExprContext) → Light R e₁ → Spends R cap (owes R e₁ + owes R e₂ + 8 * per-word R) (code-arith o e₁ e₂) (owes R) Any
   unfolding code-arith
   spends-code-arith o e₁ e₂ l = spends-unless-folded (const-fold o e₁ e₂) e₁ (omega arith) (at-most (spends-emit-arith o e₁ e₂) (omega (arith, brings-most R e₂, l)))
 
-  spends-code-unary : (o : OpCode) (e : ExprContext) → Spends R cap (owes R e + 5 * word R) (code-unary o e) (owes R) Any
+  spends-code-unary : (o : OpCode) (e : ExprContext) → Spends R cap (owes R e + 5 * per-word R) (code-unary o e) (owes R) Any
   unfolding code-unary
   spends-code-unary o e = at-most (takes-then (takes (gives-exp2anyreg e)) (λ e₁. free-then (takes-free-expr e₁) (λ _. takes-then (takes-emit _) (λ pc. spends-open {c = 0} e₁)))) (omega (arith, brings-most R e))
 
-  spends-code-concat : (e₁ e₂ : ExprContext) → Spends R cap (brings R e₁ + brings R e₂ + word R) (code-concat e₁ e₂) (owes R) Any
+  spends-code-concat : (e₁ e₂ : ExprContext) → Spends R cap (brings R e₁ + brings R e₂ + per-word R) (code-concat e₁ e₂) (owes R) Any
   unfolding code-concat
   spends-code-concat e₁ e₂ =
       at-most (takes-then (takes (gives-exp2nextreg e₂)) (λ c.
@@ -126,21 +123,21 @@ module _ {R : Resource} {cap : ℕ} where
   spends-compare-operands true e₁ e₂ g = at-most (takes-then (takes-exp2rk e₂) (λ b. takes-then (takes-exp2rk e₁) (λ a. g a b))) (omega arith)
   spends-compare-operands false e₁ e₂ g = at-most (takes-then (takes-exp2rk e₁) (λ a. takes-then (takes-exp2rk e₂) (λ b. g a b))) (omega arith)
 
-  spends-emit-comp : (o : OpCode) (cond swapped : Bool) (b c : ExprContext) → Spends R cap (2 * word R) (emit-comp o cond swapped b c) (owes R) Any
+  spends-emit-comp : (o : OpCode) (cond swapped : Bool) (b c : ExprContext) → Spends R cap (2 * per-word R) (emit-comp o cond swapped b c) (owes R) Any
   unfolding emit-comp
   spends-emit-comp o cond swapped b c = at-most (free-then (takes-free-both b c) (λ _. takes-then (takes-emit _) (λ _. takes-then takes-emit-jump (λ list. at-most {d = 0} (spends-return _ tt) (omega arith))))) (omega arith)
 
-  spends-code-comp : (o : OpCode) (cond swapped : Bool) (e₁ e₂ : ExprContext) → Light R e₁ → Spends R cap (owes R e₁ + owes R e₂ + 8 * word R) (code-comp o cond swapped e₁ e₂) (owes R) Any
+  spends-code-comp : (o : OpCode) (cond swapped : Bool) (e₁ e₂ : ExprContext) → Light R e₁ → Spends R cap (owes R e₁ + owes R e₂ + 8 * per-word R) (code-comp o cond swapped e₁ e₂) (owes R) Any
   unfolding code-comp
   spends-code-comp o cond swapped e₁ e₂ l = at-most (free-then (takes-far-numeral e₁) (λ far. spends-compare-operands far e₁ e₂ (spends-emit-comp o cond swapped))) (omega (arith, brings-most R e₂, l))
 
   -- ---- before and after the right operand
 
-  spends-operand : (e : ExprContext) → Spends R cap (owes R e + 4 * word R) (operand e) (owes R) (Light R)
+  spends-operand : (e : ExprContext) → Spends R cap (owes R e + 4 * per-word R) (operand e) (owes R) (Light R)
   unfolding operand
   spends-operand e = gives-if (is-numeral e) (λ h. at-most (spends-return e (numeral-light R e h)) (omega arith)) (λ _. at-most (spends-exp2rk e) (omega (arith, brings-most R e)))
 
-  pub spends-before-right : (o : BinOp) (e : ExprContext) → Spends R cap (owes R e + 4 * word R) (before-right o e) (left-owes R o) (Ready R o)
+  pub spends-before-right : (o : BinOp) (e : ExprContext) → Spends R cap (owes R e + 4 * per-word R) (before-right o e) (left-owes R o) (Ready R o)
   unfolding before-right
   spends-before-right bin.And e = at-most (takes-goiftrue e) (omega (arith, load-most R (e .kind)))
   spends-before-right bin.Or e = at-most (takes-goiffalse e) (omega (arith, load-most R (e .kind)))
@@ -159,25 +156,25 @@ module _ {R : Resource} {cap : ℕ} where
   spends-before-right bin.Ne e = spends-operand e
 
   -- the right value, with other jumps
-  spends-joined : (e : ExprContext) → Spends R cap (owes R e + 8 * word R) (discharge-vars e) (owes R) Any
+  spends-joined : (e : ExprContext) → Spends R cap (owes R e + 8 * per-word R) (discharge-vars e) (owes R) Any
   spends-joined e = at-most (spends-less (spends-discharge-vars e) (λ e₁ h. (omega arith, tt))) (omega (arith, load-most R (e .kind)))
 
-  spends-code-and : (e₁ e₂ : ExprContext) → Spends R cap (owes R e₂ + 8 * word R) (code-and e₁ e₂) (owes R) Any
+  spends-code-and : (e₁ e₂ : ExprContext) → Spends R cap (owes R e₂ + 8 * per-word R) (code-and e₁ e₂) (owes R) Any
   unfolding code-and
   spends-code-and e₁ e₂ = at-most (spends-then 0 (spends-joined e₂) (λ e₃ _. at-most (free-then (takes-concat (e₃ .f) (e₁ .f)) (λ f. spends-return (with-jumps (e₃ .t) f e₃) tt)) (omega arith))) (omega arith)
 
-  spends-code-or : (e₁ e₂ : ExprContext) → Spends R cap (owes R e₂ + 8 * word R) (code-or e₁ e₂) (owes R) Any
+  spends-code-or : (e₁ e₂ : ExprContext) → Spends R cap (owes R e₂ + 8 * per-word R) (code-or e₁ e₂) (owes R) Any
   unfolding code-or
   spends-code-or e₁ e₂ = at-most (spends-then 0 (spends-joined e₂) (λ e₃ _. at-most (free-then (takes-concat (e₃ .t) (e₁ .t)) (λ t. spends-return (with-jumps t (e₃ .f) e₃) tt)) (omega arith))) (omega arith)
 
-  spends-join-concat : (e₁ e₂ : ExprContext) → Light R e₁ → Spends R cap (owes R e₁ + owes R e₂ + 8 * word R) (join-concat e₁ e₂) (owes R) Any
+  spends-join-concat : (e₁ e₂ : ExprContext) → Light R e₁ → Spends R cap (owes R e₁ + owes R e₂ + 8 * per-word R) (join-concat e₁ e₂) (owes R) Any
   unfolding join-concat
-  spends-join-concat e₁ e₂ l = at-most (val-then e₂ (3 * word R + owes R e₁) (λ e₃. free-then takes-words (λ code.
-      gives-if {c = brings R e₃ + (3 * word R + owes R e₁)} (isKind Relocable e₃ && isOp op.Concat (wordAt code (e₃ .info)))
+  spends-join-concat e₁ e₂ l = at-most (val-then e₂ (3 * per-word R + owes R e₁) (λ e₃. free-then takes-words (λ code.
+      gives-if {c = brings R e₃ + (3 * per-word R + owes R e₁)} (isKind Relocable e₃ && isOp op.Concat (word code (e₃ .info)))
       (λ _. free-then (takes-free-expr e₁) (λ _. free-then (takes-change-word (e₃ .info) (λ w. setBOf w (e₁ .info))) (λ _. spends-open e₁)))
-      (λ _. gives-then (gives-exp2nextreg e₃) (λ e₄ b. at-most {d = 3 * word R + owes R e₁} (spends-code-concat e₁ e₄) (omega (arith, bare-light R e₄ b .0, bare-light R e₄ b .1, l))))))) (omega (arith, brings-most R e₂))
+      (λ _. gives-then (gives-exp2nextreg e₃) (λ e₄ b. at-most {d = 3 * per-word R + owes R e₁} (spends-code-concat e₁ e₄) (omega (arith, bare-light R e₄ b .0, bare-light R e₄ b .1, l))))))) (omega (arith, brings-most R e₂))
 
-  pub spends-after-right : (o : BinOp) (e₁ e₂ : ExprContext) → Ready R o e₁ → Spends R cap (left-owes R o e₁ + owes R e₂ + 8 * word R) (after-right o e₁ e₂) (owes R) Any
+  pub spends-after-right : (o : BinOp) (e₁ e₂ : ExprContext) → Ready R o e₁ → Spends R cap (left-owes R o e₁ + owes R e₂ + 8 * per-word R) (after-right o e₁ e₂) (owes R) Any
   unfolding after-right
   spends-after-right bin.And e₁ e₂ l = at-most (spends-code-and e₁ e₂) (omega arith)
   spends-after-right bin.Or e₁ e₂ l = at-most (spends-code-or e₁ e₂) (omega arith)
@@ -195,7 +192,7 @@ module _ {R : Resource} {cap : ℕ} where
   spends-after-right bin.Gt e₁ e₂ l = spends-code-comp op.Lt true true e₁ e₂ l
   spends-after-right bin.Ge e₁ e₂ l = spends-code-comp op.Le true true e₁ e₂ l
 
-  pub spends-code-unop : (o : UnOp) (e : ExprContext) → Spends R cap (owes R e + plain R + 5 * word R) (code-unop o e) (owes R) Any
+  pub spends-code-unop : (o : UnOp) (e : ExprContext) → Spends R cap (owes R e + per-constant R + 5 * per-word R) (code-unop o e) (owes R) Any
   unfolding code-unop
   spends-code-unop un.Neg e = spends-unless-folded (const-fold arithmetic.Unm e (newOf KNum 0)) e (omega arith) (at-most (spends-code-unary op.Unm e) (omega arith))
   spends-code-unop un.Not e = at-most (spends-code-not e) (omega (arith, load-most R (e .kind)))

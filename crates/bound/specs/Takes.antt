@@ -27,20 +27,20 @@ used entries s = s .table .count
 used text s = s .table .used
 
 -- the price of a word, of a constant that is no text, and of a text of n bytes
-abbrev pub word : Resource → ℕ
-word words = 1
-word entries = 0
-word text = 0
+abbrev pub per-word : Resource → ℕ
+per-word words = 1
+per-word entries = 0
+per-word text = 0
 
-abbrev pub plain : Resource → ℕ
-plain words = 0
-plain entries = 1
-plain text = 0
+abbrev pub per-constant : Resource → ℕ
+per-constant words = 0
+per-constant entries = 1
+per-constant text = 0
 
-abbrev pub string : Resource → ℕ → ℕ
-string words n = 0
-string entries n = 1
-string text n = n
+abbrev pub per-text : Resource → ℕ → ℕ
+per-text words n = 0
+per-text entries n = 1
+per-text text n = n
 
 -- refused for want of it
 abbrev pub want : Resource → Refusal
@@ -76,14 +76,15 @@ Any a = Unit {0}
 abbrev pub Takes : Resource → ℕ → ℕ → {A : Type 0} → Step A → Type 0
 Takes R cap c x = Gives R cap c x Any
 
--- a refusal of another number isn't for want of it
+-- refusals of other numbers differ
 pub other : (x y : Refusal) → (numberOf x ≡ numberOf y → ⊥) → x ≡ y → ⊥
 other x y n e = n (ap numberOf e)
 
-pub early : (R : Resource) (x : Refusal) → numberOf x ≤ 10 → x ≡ want R → ⊥
-early words x h = other x Words (λ y. omega (arith, h, y))
-early entries x h = other x Constants (λ y. omega (arith, h, y))
-early text x h = other x Pool (λ y. omega (arith, h, y))
+-- a refusal up to 10 is for want of no resource
+pub not-wanting : (R : Resource) (x : Refusal) → numberOf x ≤ 10 → x ≡ want R → ⊥
+not-wanting words x h = other x Words (λ y. omega (arith, h, y))
+not-wanting entries x h = other x Constants (λ y. omega (arith, h, y))
+not-wanting text x h = other x Pool (λ y. omega (arith, h, y))
 
 -- ---- the laws
 
@@ -152,7 +153,7 @@ module _ {R : Resource} {cap : ℕ} where
   takes-skip = takes-return tt
 
   pub gives-refuse : {A : Type 0} {P : A → Type 0} (x : Refusal) → numberOf x ≤ 10 → Gives R cap 0 (refuse {A = A} x) P
-  gives-refuse x h s m l = none x m (λ k. early R x h)
+  gives-refuse x h s m l = none x m (λ k. not-wanting R x h)
 
   pub takes-get : Takes R cap 0 get
   takes-get s m l = left s s m tt (omega arith) refl refl l

@@ -1,6 +1,6 @@
 -- Loading a discharged value into a register: nil (by a `LoadNil` of its own, a longer one, or none at word 0, where the registers behind the locals are nil), constants, copies, words to come.
 use Prim.Native.Nat.{ℕ, zero, suc, _+_, _≤_}
-use mathlib.Core.Bool.{Bool, true, false, _&&_}
+use mathlib.Core.Bool.{Bool, true, false}
 use mathlib.Core.Path.{_≡_, refl, ap, sym, _∙_}
 use mathlib.Core.List.{[], _∷_}
 use mathlib.Core.Option.{Option}
@@ -8,6 +8,7 @@ use mathlib.Core.Logic.{_≢_}
 use lib.Dec.{leb}
 use borrow.Author.Tests.{leb-true, leb-false}
 use native.Mathlib.Omega.{arith as nat}
+use Rattle.laws.specs.Truth.{and-true}
 use Rattle.constants.specs.Entry.{Constant, nil as knil, truth as ktruth, number as knumber, text as ktext}
 use Rattle.model.specs.Values.{Value, nil, truth, number, text, valueOf, is-true, StepKind, Taken, taken, ask-truth}
 use Rattle.model.specs.Running.{same as agrees}
@@ -31,10 +32,6 @@ abbrev hist-of : Outcome → Hist
 hist-of (at p R h) = h
 hist-of (exit ℓ b R h) = h
 hist-of stuck = []
-
-and-true : (a b : Bool) → (a && b) ≡ true → (a ≡ true) × (b ≡ true)
-and-true true b e = (refl, e)
-and-true false b e = absurd (true≢false (sym e))
 
 ext-keeps : (t z : Bool) (a k r : ℕ) (c : Code) (s : St) → Keeps s (extend t z a k r c s)
 unfolding push

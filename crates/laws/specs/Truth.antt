@@ -1,6 +1,6 @@
 -- Truth values. Assumes nothing.
 use mathlib.Core.Bool.{Bool, true, false, _||_, _&&_, true≢false}
-use mathlib.Core.Path.{_≡_, refl}
+use mathlib.Core.Path.{_≡_, refl, sym}
 
 pub or-false : (a b : Bool) → (a || b) ≡ false → (a ≡ false) × (b ≡ false)
 or-false true b h = absurd (true≢false h)
@@ -11,3 +11,7 @@ no-and a b h = rw h refl
 
 pub yes-and : {a b r : Bool} → a ≡ true → b ≡ r → (a && b) ≡ r
 yes-and h e = rw h e
+
+pub and-true : (a b : Bool) → (a && b) ≡ true → (a ≡ true) × (b ≡ true)
+and-true true b h = (refl, h)
+and-true false b h = absurd (true≢false (sym h))
