@@ -1,5 +1,5 @@
 -- How much a lowering needs. For every chunk of n nodes and all lengths of the lent buffers: what is lowered has at most 8n + 1 words, n constants, and no more bytes of text than the chunk has bytes;
--- and with so much lent, of words, constants or text, no lowering is refused for want of it, so none holds more at any moment.
+-- and with so much lent, of words (if 8n + 1 is at most 131,071), constants (if n is at most 262,144) or text, no lowering is refused for want of it, so none holds more at any moment.
 use Prim.Native.Nat.{ℕ, zero, suc, _+_, _*_, _≤_}
 use mathlib.Core.Path.{_≡_, refl, ap}
 use mathlib.Core.List.{List}
@@ -27,7 +27,7 @@ use Rattle.faithful.specs.Accepted.{Accepted}
 use Rattle.faithful.specs.Cases.{lowered-cases}
 use Rattle.bound.specs.Takes.{Resource, words, entries, text, used, per-word, want, Room, Leaves, left, none, Any, not-wanting, takes-skip}
 use Rattle.bound.specs.Emission.{takes-emit, takes-reserve-regs}
-use Rattle.bound.specs.Expressions.{own-leaf, own-one, own-many, cost, costs, kept, Reads, stays, reads-then, moved, more-of, takes-nextreg, expr-at}
+use Rattle.bound.specs.Expressions.{own-leaf, own-one, own-many, cost, costs, held, Reads, stays, reads-then, moved, more-of, takes-nextreg, expr-at}
 use Rattle.bound.specs.Texts.{exprs-behind, expr-behind}
 
 -- ---- the statement
@@ -42,7 +42,7 @@ pub record Needs (chunk : List ℕ) (c : Chunk) (w k t : ℕ) : Type 0 where
   pub constants : k ≤ nodes c
   pub text : t ≤ length chunk
 
--- what is lent isn't refused as too little: 13 with 8n + 1 words and lines, 11 with n constants, 12 with a pool as long as the chunk
+-- what is lent isn't refused as too little: 13 with 8n + 1 words and lines, 11 with n constants, 12 with a pool as long as the chunk; the first two as far as any code and any table go
 pub record Enough (z : Sizes) (chunk : List ℕ) (c : Chunk) (x : Refusal) : Type 0 where
   pub words : 8 * nodes c + 1 ≤ z .code → 8 * nodes c + 1 ≤ z .lines → 8 * nodes c + 1 ≤ maxWords → x ≡ Words → ⊥
   pub constants : nodes c ≤ z .kinds → nodes c ≤ z .values → nodes c ≤ maxConstants → x ≡ Constants → ⊥
@@ -87,7 +87,7 @@ mutual
 
 -- ---- the formulas
 
-module _ {R : Resource} {cap : ℕ} (g : Step ExprContext) (F : ℕ → ℕ → Parsed Expr) (lowers : (a : Expr) (at line at′ line′ : ℕ) → F at line ≡ parsed a at′ line′ → Reads R cap (cost R a) g (kept R) at line at′ line′ Any) where
+module _ {R : Resource} {cap : ℕ} (g : Step ExprContext) (F : ℕ → ℕ → Parsed Expr) (lowers : (a : Expr) (at line at′ line′ : ℕ) → F at line ≡ parsed a at′ line′ → Reads R cap (cost R a) g (held R) at line at′ line′ Any) where
   formulas-at : (n : ℕ) (es : Exprs) (at line at′ line′ : ℕ) → exprsAt F n at line ≡ parsed es at′ line′ → Reads R cap (costs R es) (formulas g n) (λ _. 0) at line at′ line′ Any
   unfolding exprsAt formulas costs
   formulas-at zero es at line at′ line′ e =
@@ -122,9 +122,9 @@ module _ (z : Sizes) (chunk : List ℕ) where
     abbrev end : Result (Unit {0})
     end = lower-chunk chunk (a .head) (start (a .head .next) (a .head .locals)) (cleared z)
 
-    whole : (R : Resource) (cap : ℕ) → Room R cap (cleared z) → After R cap (costs R (c .formulas) + per-word R) end
+    chunk-taken : (R : Resource) (cap : ℕ) → Room R cap (cleared z) → After R cap (costs R (c .formulas) + per-word R) end
     unfolding lower-chunk
-    whole R cap l = after (moved (reads-then (costs R (c .formulas) + per-word R) (stays (takes-reserve-regs (a .head .locals)) (a .head .next) 1) (λ _ _.
+    chunk-taken R cap l = after (moved (reads-then (costs R (c .formulas) + per-word R) (stays (takes-reserve-regs (a .head .locals)) (a .head .next) 1) (λ _ _.
         more-of (reads-then (per-word R) (formulas-at (compile-expr chunk (a .head) maxNesting) (exprAt chunk (a .head .varargs) maxNesting) (expr-at chunk (a .head) maxNesting) (a .head .formulas) (c .formulas) (a .head .next) 1 (a .at) (a .line) (a .formulas)) (λ _ _.
         more-of (reads-then 0 (stays (takes-emit _) (a .at) (a .line)) (λ _ _. stays takes-skip (a .at) (a .line))) (omega arith))) (omega arith))) refl refl (omega arith) (start (a .head .next) (a .head .locals)) (cleared z) refl refl l) (used-start R (a .head .next) (a .head .locals))
 
@@ -157,4 +157,4 @@ module _ (z : Sizes) (chunk : List ℕ) where
 
 -- for words, document 02's #107: with n up to 16,383, 8n + 1 is no more than 131,071
 pub bounded : (z : Sizes) (chunk : List ℕ) → Bounded z chunk (lowered z chunk .answer)
-bounded z chunk = lowered-cases z chunk (λ o. Bounded z chunk (o .answer)) (no-form z chunk) (λ _ _ _ c e. no-scratch z chunk c) (λ c e a l. end-bounded z chunk c e a (end z chunk c e a) (whole z chunk c e a))
+bounded z chunk = lowered-cases z chunk (λ o. Bounded z chunk (o .answer)) (no-form z chunk) (λ _ _ _ c e. no-scratch z chunk c) (λ c e a l. end-bounded z chunk c e a (end z chunk c e a) (chunk-taken z chunk c e a))

@@ -15,7 +15,7 @@ use Rattle.model.specs.Steps.{return}
 use Rattle.model.specs.Emission.{with-pc}
 use Rattle.model.specs.Jumps.{get-jump-control}
 use Rattle.model.specs.Conditions.{bit, pop, invertjump, is-not, jumponcond, jump-if-false, jump-if-true, goiftrue, goiffalse, emit-not, negate, code-not}
-use Rattle.bound.specs.Takes.{Resource, words, entries, text, used, per-word, per-constant, left, Spends, Takes, Any, at-most, spends-then, takes-then, free-then, then-free, spends-return, takes-return, takes-words, gives-if, room-same}
+use Rattle.bound.specs.Takes.{Resource, words, entries, text, used, per-word, per-constant, left, Spends, Takes, Any, at-most, spends-then, takes-then, nothing-then, then-nothing, spends-return, takes-return, takes-code-now, spends-if, room-same}
 use Rattle.bound.specs.Emission.{takes-change-word, takes-emit, takes-concat, takes-remove, takes-emit-jump, takes-patch-to-here}
 use Rattle.bound.specs.Discharge.{due, owes, value, dv-then, takes-free-expr, takes-discharge2anyreg}
 
@@ -31,13 +31,13 @@ module _ {R : Resource} {cap : ℕ} where
 
   takes-invertjump : (e : ExprContext) → Takes R cap 0 (invertjump e)
   unfolding invertjump
-  takes-invertjump e = free-then takes-words (λ code. takes-change-word (get-jump-control code (e .info)) (λ w. setAOf w (bit (eqb (aOf w) 0))))
+  takes-invertjump e = nothing-then takes-code-now (λ code. takes-change-word (get-jump-control code (e .info)) (λ w. setAOf w (bit (eqb (aOf w) 0))))
 
   takes-jumponcond : (e : ExprContext) (cond : Bool) → Takes R cap (value R e + 2 * per-word R) (jumponcond e cond)
   unfolding jumponcond
-  takes-jumponcond e cond = free-then takes-words (λ code.
-      gives-if (is-not code e) (λ _. at-most (free-then takes-pop (λ _. takes-then (takes-emit _) (λ _. takes-emit-jump))) (omega arith))
-      (λ _. at-most (takes-then (takes-discharge2anyreg e) (λ e₁. free-then (takes-free-expr e₁) (λ _. takes-then (takes-emit _) (λ _. takes-emit-jump)))) (omega arith)))
+  takes-jumponcond e cond = nothing-then takes-code-now (λ code.
+      spends-if (is-not code e) (λ _. at-most (nothing-then takes-pop (λ _. takes-then (takes-emit _) (λ _. takes-emit-jump))) (omega arith))
+      (λ _. at-most (takes-then (takes-discharge2anyreg e) (λ e₁. nothing-then (takes-free-expr e₁) (λ _. takes-then (takes-emit _) (λ _. takes-emit-jump)))) (omega arith)))
 
   -- no word
   takes-none : {A : Type 0} {c : ℕ} (a : A) → Takes R cap c (return a)
@@ -53,7 +53,7 @@ module _ {R : Resource} {cap : ℕ} where
   takes-jump-if-false Local e = takes-jumponcond e false
   takes-jump-if-false Global e = takes-jumponcond e false
   takes-jump-if-false Indexed e = takes-jumponcond e false
-  takes-jump-if-false Jmp e = at-most (free-then (takes-invertjump e) (λ _. takes-return _)) (omega arith)
+  takes-jump-if-false Jmp e = at-most (nothing-then (takes-invertjump e) (λ _. takes-return _)) (omega arith)
   takes-jump-if-false Relocable e = takes-jumponcond e false
   takes-jump-if-false NonReloc e = takes-jumponcond e false
   takes-jump-if-false Call e = takes-jumponcond e false
@@ -77,16 +77,16 @@ module _ {R : Resource} {cap : ℕ} where
 
   pub takes-goiftrue : (e : ExprContext) → Takes R cap (value R e + 2 * per-word R) (goiftrue e)
   unfolding goiftrue
-  takes-goiftrue e = dv-then e (2 * per-word R) (λ e₁ h. then-free (takes-jump-if-false (e₁ .kind) e₁) (λ list. free-then (takes-concat (e₁ .f) list) (λ f. free-then (takes-patch-to-here (e₁ .t)) (λ _. takes-return _))))
+  takes-goiftrue e = dv-then e (2 * per-word R) (λ e₁ h. then-nothing (takes-jump-if-false (e₁ .kind) e₁) (λ list. nothing-then (takes-concat (e₁ .f) list) (λ f. nothing-then (takes-patch-to-here (e₁ .t)) (λ _. takes-return _))))
 
   pub takes-goiffalse : (e : ExprContext) → Takes R cap (value R e + 2 * per-word R) (goiffalse e)
   unfolding goiffalse
-  takes-goiffalse e = dv-then e (2 * per-word R) (λ e₁ h. then-free (takes-jump-if-true (e₁ .kind) e₁) (λ list. free-then (takes-concat (e₁ .t) list) (λ t. free-then (takes-patch-to-here (e₁ .f)) (λ _. takes-return _))))
+  takes-goiffalse e = dv-then e (2 * per-word R) (λ e₁ h. then-nothing (takes-jump-if-true (e₁ .kind) e₁) (λ list. nothing-then (takes-concat (e₁ .t) list) (λ t. nothing-then (takes-patch-to-here (e₁ .f)) (λ _. takes-return _))))
 
   -- a word whose register is open owes nothing
   spends-emit-not : (e : ExprContext) → Spends R cap (value R e + per-word R) (emit-not e) (owes R) Any
   unfolding emit-not
-  spends-emit-not e = at-most (takes-then (takes-discharge2anyreg e) (λ e₁. free-then (takes-free-expr e₁) (λ _. takes-then (takes-emit _) (λ pc. at-most {d = 0} (spends-return (with-kind Relocable pc e₁) tt) (omega arith))))) (omega arith)
+  spends-emit-not e = at-most (takes-then (takes-discharge2anyreg e) (λ e₁. nothing-then (takes-free-expr e₁) (λ _. takes-then (takes-emit _) (λ pc. at-most {d = 0} (spends-return (with-kind Relocable pc e₁) tt) (omega arith))))) (omega arith)
 
   -- a descriptor without a word
   spends-kept : {c : ℕ} (e : ExprContext) → owes R e ≤ c → Spends R cap c (return e) (owes R) Any
@@ -106,7 +106,7 @@ module _ {R : Resource} {cap : ℕ} where
   spends-negate Local e = spends-kept e (omega arith)
   spends-negate Global e = spends-kept e (omega arith)
   spends-negate Indexed e = spends-kept e (omega arith)
-  spends-negate Jmp e = free-then (takes-invertjump e) (λ _. spends-kept e (omega arith))
+  spends-negate Jmp e = nothing-then (takes-invertjump e) (λ _. spends-kept e (omega arith))
   spends-negate Relocable e = at-most (spends-emit-not e) (omega arith)
   spends-negate NonReloc e = at-most (spends-emit-not e) (omega arith)
   spends-negate Call e = spends-kept e (omega arith)
@@ -114,4 +114,4 @@ module _ {R : Resource} {cap : ℕ} where
 
   pub spends-code-not : (e : ExprContext) → Spends R cap (value R e + per-word R + per-constant R) (code-not e) (owes R) Any
   unfolding code-not
-  spends-code-not e = at-most (dv-then e (per-word R + per-constant R) (λ e₁ h. at-most (spends-then 0 (spends-negate (e₁ .kind) e₁) (λ e₂ _. at-most (free-then (takes-remove (e₂ .t)) (λ _. free-then (takes-remove (e₂ .f)) (λ _. spends-return (with-jumps (e₂ .f) (e₂ .t) e₂) tt))) (omega arith))) (omega arith))) (omega arith)
+  spends-code-not e = at-most (dv-then e (per-word R + per-constant R) (λ e₁ h. at-most (spends-then 0 (spends-negate (e₁ .kind) e₁) (λ e₂ _. at-most (nothing-then (takes-remove (e₂ .t)) (λ _. nothing-then (takes-remove (e₂ .f)) (λ _. spends-return (with-jumps (e₂ .f) (e₂ .t) e₂) tt))) (omega arith))) (omega arith))) (omega arith)

@@ -27,7 +27,7 @@ use Rattle.model.specs.Emission.{with-pc, with-table, with-free, with-frame, wi
 use Rattle.model.specs.Discharge.{change-word}
 use Rattle.simulation.specs.Texts.{take-at-most}
 use Rattle.padding.specs.Lengths.{length-linked, length-remove, length-patch-list}
-use Rattle.bound.specs.Takes.{Resource, words, entries, text, used, per-word, per-constant, per-text, want, Room, Leaves, left, none, Any, Takes, other, at-most, takes-then, free-then, then-free, takes-return, takes-skip, gives-refuse, takes-get, takes-words, used-same, takes-change, room-same, takes-change-words, gives-if}
+use Rattle.bound.specs.Takes.{Resource, words, entries, text, used, per-word, per-constant, per-text, want, Room, Leaves, left, none, Any, Takes, other, at-most, takes-then, nothing-then, then-nothing, takes-return, takes-skip, gives-refuse, takes-get, takes-code-now, used-same, takes-change, room-same, takes-change-words, spends-if}
 
 -- ---- constants
 
@@ -142,11 +142,11 @@ module _ {R : Resource} {cap : ℕ} where
 
   pub takes-emit-at : (w line : ℕ) → Takes R cap (per-word R) (emit-at w line)
   unfolding emit-at
-  takes-emit-at w line = free-then takes-discharge-jpc (λ _. takes-push w line)
+  takes-emit-at w line = nothing-then takes-discharge-jpc (λ _. takes-push w line)
 
   pub takes-emit : (w : ℕ) → Takes R cap (per-word R) (emit w)
   unfolding emit
-  takes-emit w = free-then takes-get (λ s. takes-emit-at w (s .line))
+  takes-emit w = nothing-then takes-get (λ s. takes-emit-at w (s .line))
 
   pub takes-concat : (l1 l2 : ℕ) → Takes R cap 0 (concat l1 l2)
   unfolding concat
@@ -161,7 +161,7 @@ module _ {R : Resource} {cap : ℕ} where
 
   pub takes-emit-jump : Takes R cap (per-word R) emit-jump
   unfolding emit-jump
-  takes-emit-jump = free-then takes-get (λ s. free-then (takes-remove (s .jpc)) (λ _. free-then (takes-jpc 0) (λ _. then-free (takes-emit _) (λ pc. takes-concat (pc + 1) (s .jpc)))))
+  takes-emit-jump = nothing-then takes-get (λ s. nothing-then (takes-remove (s .jpc)) (λ _. nothing-then (takes-jpc 0) (λ _. then-nothing (takes-emit _) (λ pc. takes-concat (pc + 1) (s .jpc)))))
 
   pub takes-patch-to-here : (list : ℕ) → Takes R cap 0 (patch-to-here list)
   unfolding patch-to-here
@@ -177,17 +177,17 @@ module _ {R : Resource} {cap : ℕ} where
 
   pub takes-code-label : (reg b jump : ℕ) → Takes R cap (per-word R) (code-label reg b jump)
   unfolding code-label
-  takes-code-label reg b jump = free-then takes-get-label (λ _. takes-emit _)
+  takes-code-label reg b jump = nothing-then takes-get-label (λ _. takes-emit _)
 
   takes-load-nil : (r : ℕ) → Takes R cap (per-word R) (load-nil r)
   unfolding load-nil
-  takes-load-nil r = then-free (takes-emit _) (λ _. takes-skip)
+  takes-load-nil r = then-nothing (takes-emit _) (λ _. takes-skip)
 
   pub takes-emit-nil : (from : ℕ) → Takes R cap (per-word R) (emit-nil from)
   unfolding emit-nil
-  takes-emit-nil from = free-then takes-get (λ s. free-then takes-words (λ code.
-      gives-if (leb (s .label) (s .pc)) (λ _. gives-if (eqb (s .pc) 0) (λ _. none-of takes-skip) (λ _.
-      gives-if (adjoins (word code (s .pc - 1)) from) (λ _. gives-if (ltb (bOf (word code (s .pc - 1))) from) (λ _. none-of (takes-change-word (s .pc - 1) (λ w. setBOf w from))) (λ _. none-of takes-skip)) (λ _. takes-load-nil from))) (λ _. takes-load-nil from)))
+  takes-emit-nil from = nothing-then takes-get (λ s. nothing-then takes-code-now (λ code.
+      spends-if (leb (s .label) (s .pc)) (λ _. spends-if (eqb (s .pc) 0) (λ _. none-of takes-skip) (λ _.
+      spends-if (adjoins (word code (s .pc - 1)) from) (λ _. spends-if (ltb (bOf (word code (s .pc - 1))) from) (λ _. none-of (takes-change-word (s .pc - 1) (λ w. setBOf w from))) (λ _. none-of takes-skip)) (λ _. takes-load-nil from))) (λ _. takes-load-nil from)))
     where
       none-of : {x : Step (Unit {0})} → Takes R cap 0 x → Takes R cap (per-word R) x
       none-of g = at-most g (omega arith)
@@ -196,7 +196,7 @@ module _ {R : Resource} {cap : ℕ} where
 
   takes-check-stack : (n : ℕ) → Takes R cap 0 (check-stack n)
   unfolding check-stack
-  takes-check-stack n = takes-then takes-get (λ s. gives-if (leb (s .free + n) maxStack) (λ _. takes-change (with-frame (max (s .frame) (s .free + n))) (λ s. refl) (λ s. refl) (λ s. refl) (λ s. refl)) (λ _. gives-refuse Registers (omega arith)))
+  takes-check-stack n = takes-then takes-get (λ s. spends-if (leb (s .free + n) maxStack) (λ _. takes-change (with-frame (max (s .frame) (s .free + n))) (λ s. refl) (λ s. refl) (λ s. refl) (λ s. refl)) (λ _. gives-refuse Registers (omega arith)))
 
   pub takes-reserve-regs : (n : ℕ) → Takes R cap 0 (reserve-regs n)
   unfolding reserve-regs
@@ -208,4 +208,4 @@ module _ {R : Resource} {cap : ℕ} where
 
   pub takes-free-reg : (r : ℕ) → Takes R cap 0 (free-reg r)
   unfolding free-reg
-  takes-free-reg r = takes-then takes-get (λ s. gives-if (leb (s .active) r && (ltb r bitRk && eqb (r + 1) (s .free))) (λ _. takes-free r) (λ _. takes-skip))
+  takes-free-reg r = takes-then takes-get (λ s. spends-if (leb (s .active) r && (ltb r bitRk && eqb (r + 1) (s .free))) (λ _. takes-free r) (λ _. takes-skip))

@@ -33,7 +33,7 @@ use Rattle.model.specs.Emission.{with-place}
 use Rattle.model.specs.Discharge.{exp2nextreg}
 use Rattle.model.specs.Expressions.{search-local, set-multret, above, emit-call, closed-call, is-open, last-argument, compile-funcargs, set-indexed, code-self, string-constant, resolved, resolve-var, leaf-expr, after-one, between, after-two, callee, compile-head, compile-expr}
 use Rattle.simulation.specs.Parsing.{invert, same-parsed, node-is, expr-is}
-use Rattle.bound.specs.Takes.{Resource, per-word, per-constant, per-text, used, Room, Leaves, Spends, Takes, Any, later, at-most, spends-less, holding, takes, then-leaves, gives-then, takes-then, free-then, then-free, spends-return, takes-return, takes-get, gives-if, used-same}
+use Rattle.bound.specs.Takes.{Resource, per-word, per-constant, per-text, used, Room, Leaves, Spends, Takes, Any, later, at-most, spends-less, holding, takes, then-leaves, gives-then, takes-then, nothing-then, then-nothing, spends-return, takes-return, takes-get, spends-if, used-same}
 use Rattle.bound.specs.Emission.{takes-add-constant, takes-free, takes-change-word, takes-emit-at, takes-emit, takes-reserve-regs}
 use Rattle.bound.specs.Discharge.{load-most, owes, brings, brings-most, bare-light, spends-discharge-vars, takes-free-expr, gives-exp2nextreg, gives-exp2anyreg}
 use Rattle.bound.specs.Operands.{spends-exp2rk}
@@ -73,8 +73,8 @@ unfoldable mutual
   costs R (more a es) = cost R a + costs R es
 
 -- what the answer holds on to
-abbrev pub kept : Resource → ExprContext → ℕ
-kept R e = 4 * per-word R + owes R e
+abbrev pub held : Resource → ExprContext → ℕ
+held R e = 4 * per-word R + owes R e
 
 -- what the first sub-expression is, and owes, before the second one is lowered
 abbrev ReadyTwo : Resource → Two → ExprContext → Type 0
@@ -109,23 +109,23 @@ module _ {R : Resource} {cap : ℕ} where
 
   takes-set-multret : (e : ExprContext) → Takes R cap 0 (set-multret e)
   unfolding set-multret
-  takes-set-multret e = gives-if (isKind Call e) (λ _. takes-change-word (e .info) (λ w. setCOf w 0))
-      (λ _. free-then takes-get (λ s. free-then (takes-change-word (e .info) (λ w. setAOf (setBOf w 0) (s .free))) (λ _. takes-reserve-regs 1)))
+  takes-set-multret e = spends-if (isKind Call e) (λ _. takes-change-word (e .info) (λ w. setCOf w 0))
+      (λ _. nothing-then takes-get (λ s. nothing-then (takes-change-word (e .info) (λ w. setAOf (setBOf w 0) (s .free))) (λ _. takes-reserve-regs 1)))
 
   spends-emit-call : (func : ExprContext) (b line : ℕ) → Spends R cap (per-word R) (emit-call func b line) (owes R) Any
   unfolding emit-call
-  spends-emit-call func b line = at-most (takes-then (takes-emit-at _ line) (λ pc. free-then (takes-free (above (func .info))) (λ _. at-most {d = 0} (spends-return (with-kind Call pc func) tt) (omega arith)))) (omega arith)
+  spends-emit-call func b line = at-most (takes-then (takes-emit-at _ line) (λ pc. nothing-then (takes-free (above (func .info))) (λ _. at-most {d = 0} (spends-return (with-kind Call pc func) tt) (omega arith)))) (omega arith)
 
   spends-closed-call : (func : ExprContext) (line : ℕ) → Spends R cap (per-word R) (closed-call func line) (owes R) Any
   unfolding closed-call
-  spends-closed-call func line = free-then takes-get (λ s. spends-emit-call func (s .free - above (func .info) + 1) line)
+  spends-closed-call func line = nothing-then takes-get (λ s. spends-emit-call func (s .free - above (func .info) + 1) line)
 
-  pub takes-nextreg : (e : ExprContext) → Takes R cap (kept R e) (exp2nextreg e)
+  pub takes-nextreg : (e : ExprContext) → Takes R cap (held R e) (exp2nextreg e)
   takes-nextreg e = at-most (takes (gives-exp2nextreg e)) (brings-most R e)
 
-  spends-last-argument : (func : ExprContext) (line : ℕ) (e : ExprContext) → Spends R cap (kept R e + per-word R) (last-argument func line e) (owes R) Any
+  spends-last-argument : (func : ExprContext) (line : ℕ) (e : ExprContext) → Spends R cap (held R e + per-word R) (last-argument func line e) (owes R) Any
   unfolding last-argument
-  spends-last-argument func line e = gives-if (is-open e) (λ _. at-most (free-then (takes-set-multret e) (λ _. spends-emit-call func 0 line)) (omega arith)) (λ _. takes-then (takes-nextreg e) (λ _. spends-closed-call func line))
+  spends-last-argument func line e = spends-if (is-open e) (λ _. at-most (nothing-then (takes-set-multret e) (λ _. spends-emit-call func 0 line)) (omega arith)) (λ _. takes-then (takes-nextreg e) (λ _. spends-closed-call func line))
 
   spends-set-indexed : (t key : ExprContext) → Spends R cap (brings R key) (set-indexed t key) (owes R) Any
   unfolding set-indexed
@@ -135,11 +135,11 @@ module _ {R : Resource} {cap : ℕ} where
   unfolding code-self
   takes-code-self e key =
       at-most (takes-then (takes (gives-exp2anyreg e)) (λ e₁.
-      free-then (takes-free-expr e₁) (λ _.
-      free-then takes-get (λ s.
-      free-then (takes-reserve-regs 2) (λ _.
+      nothing-then (takes-free-expr e₁) (λ _.
+      nothing-then takes-get (λ s.
+      nothing-then (takes-reserve-regs 2) (λ _.
       takes-then (takes (spends-exp2rk key)) (λ k.
-      then-free (takes-emit _) (λ _. free-then (takes-free-expr k) (λ _. takes-return _)))))))) (omega arith)
+      then-nothing (takes-emit _) (λ _. nothing-then (takes-free-expr k) (λ _. takes-return _)))))))) (omega arith)
 
   -- ---- nodes
 
@@ -171,7 +171,7 @@ module _ {R : Resource} {cap : ℕ} where
     spends-after-one (one.Field t) e = at-most (takes-then (takes (gives-exp2anyreg e)) (λ e₁. takes-then (takes-string-constant t) (λ k. at-most {d = per-word R} (spends-set-indexed e₁ (newOf K k)) (omega arith)))) (omega (arith, brings-most R e))
     spends-after-one one.Paren e = at-most (spends-less (spends-discharge-vars e) (λ e₁ h. (omega arith, tt))) (omega (arith, load-most R (e .kind)))
 
-    spends-between : (t : Two) (e : ExprContext) → Spends R cap (kept R e) (between chunk hd t e) (first-owes R t) (ReadyTwo R t)
+    spends-between : (t : Two) (e : ExprContext) → Spends R cap (held R e) (between chunk hd t e) (first-owes R t) (ReadyTwo R t)
     unfolding between
     spends-between (two.Binary o) e = at-most (spends-before-right o e) (omega arith)
     spends-between two.Index e = at-most (takes (gives-exp2anyreg e)) (brings-most R e)
@@ -187,8 +187,8 @@ module _ {R : Resource} {cap : ℕ} where
     takes-callee (many.MethodCall t) e = at-most (gives-then (gives-exp2anyreg e) (λ e₁ b. takes-then (takes-string-constant t) (λ k. at-most {d = 3 * per-word R} (takes-code-self e₁ (newOf K k)) (omega (arith, bare-light R e₁ b .0, bare-light R e₁ b .1))))) (omega (arith, brings-most R e))
 
     -- sub-expressions are lowered by g and parsed by F
-    module _ (g : Step ExprContext) (F : ℕ → ℕ → Parsed Expr) (lowers : (a : Expr) (at line at′ line′ : ℕ) → F at line ≡ parsed a at′ line′ → Reads R cap (cost R a) g (kept R) at line at′ line′ Any) where
-      args-at : (n : ℕ) (es : Exprs) (at line at′ line′ : ℕ) → exprsAt F n at line ≡ parsed es at′ line′ → (func : ExprContext) (line₀ : ℕ) → Reads R cap (costs R es + 5 * per-word R) (compile-funcargs g func line₀ n) (kept R) at line at′ line′ Any
+    module _ (g : Step ExprContext) (F : ℕ → ℕ → Parsed Expr) (lowers : (a : Expr) (at line at′ line′ : ℕ) → F at line ≡ parsed a at′ line′ → Reads R cap (cost R a) g (held R) at line at′ line′ Any) where
+      args-at : (n : ℕ) (es : Exprs) (at line at′ line′ : ℕ) → exprsAt F n at line ≡ parsed es at′ line′ → (func : ExprContext) (line₀ : ℕ) → Reads R cap (costs R es + 5 * per-word R) (compile-funcargs g func line₀ n) (held R) at line at′ line′ Any
       unfolding exprsAt compile-funcargs costs
       args-at zero es at line at′ line′ e func line₀ =
           let w = same-parsed no-more es at line at′ line′ e in
@@ -206,7 +206,7 @@ module _ {R : Resource} {cap : ℕ} where
           moved (reads-then rest (lowers (v .value) at line (v .place) (v .own-line) (v .first)) (λ e₁ _. reads-then rest (stays (takes-nextreg e₁) (v .place) (v .own-line)) (λ e₂ _. more-of (args-at (suc n) (u .value) (v .place) (v .own-line) (u .place) (u .own-line) (u .first) func line₀) (omega arith)))) (w .1 .0) (w .1 .1)
           (omega (arith, ap (costs R) (w .0)))
 
-      head-at : (sp : Span) (h : Head) (d : Expr) (at line at′ line′ : ℕ) → rest F sp h at line ≡ parsed d at′ line′ → Reads R cap (cost R d) (compile-head chunk hd g h) (kept R) at line at′ line′ Any
+      head-at : (sp : Span) (h : Head) (d : Expr) (at line at′ line′ : ℕ) → rest F sp h at line ≡ parsed d at′ line′ → Reads R cap (cost R d) (compile-head chunk hd g h) (held R) at line at′ line′ Any
       unfolding rest compile-head cost
       head-at sp (head.Leaf x) d at line at′ line′ e =
           let w = same-parsed (leaf-node sp x) d at line at′ line′ e in
@@ -233,7 +233,7 @@ module _ {R : Resource} {cap : ℕ} where
           more-of (args-at n (u .value) (v .place) (v .own-line) (u .place) (u .own-line) (u .first) func (s .line)) (omega arith)))) (omega arith))) (w .1 .0) (w .1 .1)
           (omega (arith, ap (cost R) (w .0)))
 
-    pub expr-at : (left : ℕ) (a : Expr) (at line at′ line′ : ℕ) → exprAt chunk (hd .varargs) left at line ≡ parsed a at′ line′ → Reads R cap (cost R a) (compile-expr chunk hd left) (kept R) at line at′ line′ Any
+    pub expr-at : (left : ℕ) (a : Expr) (at line at′ line′ : ℕ) → exprAt chunk (hd .varargs) left at line ≡ parsed a at′ line′ → Reads R cap (cost R a) (compile-expr chunk hd left) (held R) at line at′ line′ Any
     unfolding exprAt
     expr-at zero a at line at′ line′ e s m p q k = absurd (let y : _≡_ {A = ℕ} 0 1 = cc in omega arith)
     expr-at (suc left) a at line at′ line′ e s m p q k =

@@ -31,9 +31,9 @@ use Rattle.model.specs.Emission.{with-table, with-free, with-frame, stored-in, 
 use Rattle.model.specs.Discharge.{discharge-kind, discharge-vars, free-expr, number-constant, load-kind, discharge2reg, exp2reg, exp2nextreg, exp2anyreg, exp2val, small, near, rk-kind, exp2rk}
 use Rattle.labelled.specs.Machine.{pick}
 use Rattle.simulation.specs.Registers.{reserve-is, alloc-is}
-use Rattle.bound.specs.Takes.{Resource, per-word, per-constant, used, Room, Leaves, left, none, Spends, Takes, later, at-most, not-wanting, spends-less, then-leaves, gives-then, takes-then, free-then, then-free, spends-return, gives-return, takes-get, gives-if, used-same, room-same}
+use Rattle.bound.specs.Takes.{Resource, per-word, per-constant, used, Room, Leaves, left, none, Spends, Takes, later, at-most, not-wanting, spends-less, then-leaves, gives-then, takes-then, nothing-then, then-nothing, spends-return, gives-return, takes-get, spends-if, used-same, room-same}
 use Rattle.bound.specs.Emission.{price, Fair, fair-added, takes-add-constant, takes-emit}
-use Rattle.bound.specs.Discharge.{load, due, loads, owes, brings, Light, light, Bare, bare-light, Same, same-kind, loads-same, gives-settled, dv-then, gives-exp2anyreg, gives-again}
+use Rattle.bound.specs.Discharge.{load, due, jumps-cost, owes, brings, Light, light, Bare, bare-light, Same, same-kind, jumps-cost-same, gives-settled, dv-then, gives-exp2anyreg, gives-again}
 
 -- ---- a number that was added is found
 
@@ -42,6 +42,7 @@ abbrev count-in : Added → ℕ
 count-in (added.At i t) = t .count
 count-in (added.Refused x) = 0
 
+-- 1 for an answer that isn't a refusal
 abbrev is-at : Added → ℕ
 is-at (added.At i t) = 1
 is-at (added.Refused x) = 0
@@ -69,9 +70,9 @@ module _ (e : ExprContext) where
       Goal : Type 0
       Goal = (j : ℕ) × (find (holds pool′ [] num) (t′ .count) ks′ vs′ ≡ At j)
 
-      room : find (holds pool [] num) (t .count) ks vs ≡ Nothing → (b : Bool) → full (t .count) ks vs ≡ b → Goal
-      room f true g = absurd (let z : _≡_ {A = ℕ} 0 1 = ap (λ o. is-at (o .answer)) (sym (added-full [] t num ks vs pool f refl g refl) ∙ h) in omega (arith, z))
-      room f false g =
+      unlisted : find (holds pool [] num) (t .count) ks vs ≡ Nothing → (b : Bool) → full (t .count) ks vs ≡ b → Goal
+      unlisted f true g = absurd (let z : _≡_ {A = ℕ} 0 1 = ap (λ o. is-at (o .answer)) (sym (added-full [] t num ks vs pool f refl g refl) ∙ h) in omega (arith, z))
+      unlisted f false g =
           let w : out (added.At (t .count) (record { count = t .count + 1; used = t .used + 0 })) (set ks (t .count) 3) (set vs (t .count) (e .bits)) pool ≡ out (added.At i t′) ks′ vs′ pool′ = sym (added-new [] t num ks vs pool f refl g refl refl) ∙ h in
           let a : t .count + 1 ≡ t′ .count = ap (λ o. count-in (o .answer)) w in
           let b : set ks (t .count) 3 ≡ ks′ = ap (λ o. o .kinds) w in
@@ -80,7 +81,7 @@ module _ (e : ExprContext) where
           rw (sym a, sym b, sym c, sym d) (new-found (t .count) ks vs pool (not-full (t .count) ks vs g .0) (not-full (t .count) ks vs g .1))
 
       search : (f : Found) → find (holds pool [] num) (t .count) ks vs ≡ f → Goal
-      search Nothing f = room f (full (t .count) ks vs) refl
+      search Nothing f = unlisted f (full (t .count) ks vs) refl
       search (At j) f =
           let w : out (added.At j t) ks vs pool ≡ out (added.At i t′) ks′ vs′ pool′ = sym (added-there [] t num ks vs pool f refl) ∙ h in
           let a : t .count ≡ t′ .count = ap (λ o. count-in (o .answer)) w in
@@ -89,21 +90,21 @@ module _ (e : ExprContext) where
           let d : pool ≡ pool′ = ap (λ o. o .pool) w in
           (j, rw (sym a, sym b, sym c, sym d) f)
 
--- ---- a number above 255
+-- ---- a number whose constant lies above 255
 
 -- the descriptor of a number, by itself
 abbrev numeral : ExprContext → ExprContext
 numeral e = with-kind KNum (e .info) e
 
-is-numeral : (e : ExprContext) → e .kind ≡ KNum → e ≡ numeral e
-is-numeral e p = ap (λ k. with-kind k (e .info) e) p
+numeral-same : (e : ExprContext) → e .kind ≡ KNum → e ≡ numeral e
+numeral-same e p = ap (λ k. with-kind k (e .info) e) p
 
 module _ {R : Resource} {cap : ℕ} where
   -- loaded where it is listed
   far-load : (e : ExprContext) (reg : ℕ) (s : State) (m : Buffers) (j : ℕ) → find (holds (m .pool) [] (num e)) (s .table .count) (m .kinds) (m .values) ≡ At j → Room R cap m → Leaves R cap (per-word R) (used R s) (s .at) (s .line) (λ e₁. 0) (Same (numeral e)) (discharge2reg (numeral e) reg s m)
   unfolding discharge2reg discharge-kind load-kind add-constant andThen
   far-load e reg s m j f l = rw (added-there [] (s .table) (num e) (m .kinds) (m .values) (m .pool) f refl)
-      (later (then-free (takes-emit _) (λ _. gives-return (with-kind NonReloc reg (numeral e)) (same-kind NonReloc reg (numeral e) refl refl)) (with-table (s .table) s) m l) (omega (arith, used-same R s (with-table (s .table) s) refl refl)) refl refl)
+      (later (then-nothing (takes-emit _) (λ _. gives-return (with-kind NonReloc reg (numeral e)) (same-kind NonReloc reg (numeral e) refl refl)) (with-table (s .table) s) m l) (omega (arith, used-same R s (with-table (s .table) s) refl refl)) refl refl)
 
   far-register : (e : ExprContext) (s : State) (m : Buffers) (j : ℕ) → find (holds (m .pool) [] (num e)) (s .table .count) (m .kinds) (m .values) ≡ At j → has-jumps e ≡ false → Room R cap m → Leaves R cap (per-word R) (used R s) (s .at) (s .line) (owes R) (Light R) (exp2anyreg (numeral e) s m)
   unfolding exp2anyreg exp2nextreg exp2reg discharge-kind free-expr andThen
@@ -115,7 +116,7 @@ module _ {R : Resource} {cap : ℕ} where
       go : (b : Bool) → Leaves R cap (per-word R) (used R s) (s .at) (s .line) (owes R) (Light R) (andThen (andThen (pick b (done (tt {0}) s₁ m) (refused Registers m)) (λ _ s₂ m₂. done (s .free) s₂ m₂)) (λ reg. exp2reg (numeral e) reg))
       go false = none Registers m (λ k. not-wanting R Registers (omega arith))
       go true = later (then-leaves 0 (far-load e (s .free) s₁ m j f l) (λ e₁ s₂ m₂ same p q r.
-          later (spends-less (gives-settled (numeral e) e₁ (s .free) same) (bare-light R) s₂ m₂ r) (let z : loads R (numeral e) ≡ 0 = rw h refl in omega (arith, z)) p q)) (omega (arith, used-same R s s₁ refl refl)) refl refl
+          later (spends-less (gives-settled (numeral e) e₁ (s .free) same) (bare-light R) s₂ m₂ r) (let z : jumps-cost R (numeral e) ≡ 0 = rw h refl in omega (arith, z)) p q)) (omega (arith, used-same R s s₁ refl refl)) refl refl
 
 -- listed, and then an operand or loaded
 module _ (R : Resource) (cap : ℕ) (e : ExprContext) (p : e .kind ≡ KNum) (h : has-jumps e ≡ false) (s : State) (m : Buffers) (l : Room R cap m) where
@@ -125,8 +126,8 @@ module _ (R : Resource) (cap : ℕ) (e : ExprContext) (p : e .kind ≡ KNum) (h 
   abbrev Adding : Added → List ℕ → List ℕ → List ℕ → Type 0
   Adding r ks vs pool = addedTo [] (s .table) (num e) (m .kinds) (m .values) (m .pool) ≡ out r ks vs pool
 
-  costs : brings R e ≡ per-word R + per-constant R
-  costs = let z : loads R e ≡ 0 = rw (p, h) refl in omega (arith, z, ap (due R) p, ap (load R) p)
+  number-brings : brings R e ≡ per-word R + per-constant R
+  number-brings = let z : jumps-cost R e ≡ 0 = rw (p, h) refl in omega (arith, z, ap (due R) p, ap (load R) p)
 
   module _ (i : ℕ) (t : Table) (ks vs pool : List ℕ) (q : Adding (added.At i t) ks vs pool) (f : Fair R cap s (per-constant R) (added.At i t)) where
     abbrev m₁ : Buffers
@@ -136,14 +137,14 @@ module _ (R : Resource) (cap : ℕ) (e : ExprContext) (p : e .kind ≡ KNum) (h 
     room = let k : Kept (m .kinds) (m .values) (m .pool) t ks vs pool = kept-added [] (s .table) (num e) (m .kinds) (m .values) (m .pool) q in room-same R cap m m₁ refl refl (k .kinds-length) (k .values-length) (k .pool-length) l
 
     near-or-far : (b : Bool) → Brought ((elim b as (λ (_ : Bool). Step ExprContext) [ true ↦ return (with-kind K i e) | false ↦ exp2anyreg e ]) (with-table t s) m₁)
-    near-or-far true = left (with-kind K i e) (with-table t s) m₁ (light R (with-kind K i e) h refl) (omega (arith, f, costs)) refl refl room
+    near-or-far true = left (with-kind K i e) (with-table t s) m₁ (light R (with-kind K i e) h refl) (omega (arith, f, number-brings)) refl refl room
     near-or-far false =
         let found = listed e (s .table) (m .kinds) (m .values) (m .pool) i t ks vs pool q in
-        later (subst (λ y. Leaves R cap (per-word R) (used R (with-table t s)) (s .at) (s .line) (owes R) (Light R) (exp2anyreg y (with-table t s) m₁)) (sym (is-numeral e p)) (far-register e (with-table t s) m₁ (found .0) (found .1) h room)) (omega (arith, f, costs)) refl refl
+        later (subst (λ y. Leaves R cap (per-word R) (used R (with-table t s)) (s .at) (s .line) (owes R) (Light R) (exp2anyreg y (with-table t s) m₁)) (sym (numeral-same e p)) (far-register e (with-table t s) m₁ (found .0) (found .1) h room)) (omega (arith, f, number-brings)) refl refl
 
   brought : (r : Added) (ks vs pool : List ℕ) → Adding r ks vs pool → Fair R cap s (per-constant R) r → Brought (andThen (stored-in s m (out r ks vs pool)) (λ k. near e k))
   unfolding near andThen
-  brought (added.Refused x) ks vs pool q f = none x _ (λ k. f (omega (arith, k, costs)))
+  brought (added.Refused x) ks vs pool q f = none x _ (λ k. f (omega (arith, k, number-brings)))
   brought (added.At i t) ks vs pool q f = near-or-far i t ks vs pool q f (leb i maxIndexRk)
 
 module _ {R : Resource} {cap : ℕ} where
@@ -161,11 +162,11 @@ module _ {R : Resource} {cap : ℕ} where
 
   spends-small : (e : ExprContext) {constant : Step ℕ} → has-jumps e ≡ false → Takes R cap (owes R e) constant → Spends R cap (brings R e) (small e constant) (owes R) (Light R)
   unfolding small
-  spends-small e h g = free-then takes-get (λ s. gives-if (leb (s .table .count) maxIndexRk) (λ _. at-most (takes-then g (λ k. spends-k k e h)) (omega arith)) (λ _. spends-register e))
+  spends-small e h g = nothing-then takes-get (λ s. spends-if (leb (s .table .count) maxIndexRk) (λ _. at-most (takes-then g (λ k. spends-k k e h)) (omega arith)) (λ _. spends-register e))
 
   spends-near : (e : ExprContext) (k : ℕ) → has-jumps e ≡ false → Spends R cap (brings R e) (near e k) (owes R) (Light R)
   unfolding near
-  spends-near e k h = gives-if (leb k maxIndexRk) (λ _. at-most (spends-k k e h) (omega arith)) (λ _. spends-register e)
+  spends-near e k h = spends-if (leb k maxIndexRk) (λ _. at-most (spends-k k e h) (omega arith)) (λ _. spends-register e)
 
   -- nil or a truth value
   takes-owed : (e : ExprContext) (k : ExprKind) (v : Val) → e .kind ≡ k → price R v ≡ due R k → Takes R cap (owes R e) (add-constant [] v)
@@ -197,7 +198,7 @@ module _ {R : Resource} {cap : ℕ} where
     where
       go : (b : Bool) → has-jumps e ≡ b → Spends R cap (brings R e) {A = ExprContext} ((elim b as (λ (_ : Bool). Step ExprContext) [ true ↦ exp2anyreg e | false ↦ discharge-vars e ]) >>= (λ e₁. rk-kind (e₁ .kind) e₁)) (owes R) (Light R)
       go true j = at-most (gives-then (gives-exp2anyreg e) (λ e₁ b. rk-again e₁ b)) (omega arith)
-      go false j = dv-then e (loads R e) (λ e₁ h. at-most (spends-rk-kind (e₁ .kind) e₁ refl (h .has ∙ j)) (omega (arith, loads-same R h)))
+      go false j = dv-then e (jumps-cost R e) (λ e₁ h. at-most (spends-rk-kind (e₁ .kind) e₁ refl (h .has ∙ j)) (omega (arith, jumps-cost-same R h)))
 
   -- what follows `exp2val` may take what its descriptor costs; a register that was taken costs a word again
   pub val-then : (e : ExprContext) (d : ℕ) {B : Type 0} {f : ExprContext → Step B} {ψ : B → ℕ} {Q : B → Type 0} → ((e₁ : ExprContext) → Spends R cap (brings R e₁ + d) (f e₁) ψ Q) → Spends R cap (brings R e + per-word R + d) (exp2val e >>= f) ψ Q
@@ -206,4 +207,4 @@ module _ {R : Resource} {cap : ℕ} where
     where
       go : (b : Bool) → Spends R cap (brings R e + per-word R + d) {A = B} ((elim b as (λ (_ : Bool). Step ExprContext) [ true ↦ exp2anyreg e | false ↦ discharge-vars e ]) >>= f) ψ Q
       go true = at-most (gives-then (gives-exp2anyreg e) (λ e₁ b. at-most {d = per-word R + d} (g e₁) (omega (arith, bare-light R e₁ b .0, bare-light R e₁ b .1)))) (omega arith)
-      go false = at-most (dv-then e (loads R e + d) (λ e₁ h. at-most (g e₁) (omega (arith, loads-same R h)))) (omega arith)
+      go false = at-most (dv-then e (jumps-cost R e + d) (λ e₁ h. at-most (g e₁) (omega (arith, jumps-cost-same R h)))) (omega arith)

@@ -1,4 +1,4 @@
--- What operators take: at most 4 words before the right operand and 8 behind it, and what the operands owe of constants. An operand that was brought before costs one word, which is why arithmetic and comparisons may bring it again.
+-- What operators take: at most 4 words before the right operand and 8 behind it, and what the operands owe of constants; unary ones 5 words and one constant more. An operand that was brought before costs one word, which is why arithmetic and comparisons may bring it again.
 use Prim.Native.Nat.{ℕ, _+_, _*_, _≤_}
 use mathlib.Core.Bool.{Bool, true, false, _&&_}
 use mathlib.Core.Path.{_≡_, refl}
@@ -24,7 +24,7 @@ use Rattle.model.specs.Steps.{Step, return}
 use Rattle.model.specs.Jumps.{word, isOp}
 use Rattle.model.specs.Discharge.{discharge-vars, exp2rk, rk}
 use Rattle.model.specs.Operators.{const-fold, unless-folded, free-in-turn, free-both, emit-arith, code-arith, code-unary, code-concat, far-numeral, compare-operands, emit-comp, code-comp, operand, before-right, code-and, code-or, join-concat, after-right, code-unop}
-use Rattle.bound.specs.Takes.{Resource, per-word, per-constant, left, Spends, Takes, Any, at-most, spends-less, takes, spends-then, gives-then, takes-then, free-then, spends-return, takes-words, gives-if}
+use Rattle.bound.specs.Takes.{Resource, per-word, per-constant, left, Spends, Takes, Any, at-most, spends-less, takes, spends-then, gives-then, takes-then, nothing-then, spends-return, takes-code-now, spends-if}
 use Rattle.bound.specs.Emission.{takes-change-word, takes-emit, takes-concat, takes-emit-jump}
 use Rattle.bound.specs.Discharge.{load-most, owes, brings, brings-most, Light, light, bare-light, spends-discharge-vars, takes-free-expr, gives-exp2nextreg, gives-exp2anyreg}
 use Rattle.bound.specs.Operands.{spends-exp2rk, val-then}
@@ -73,7 +73,7 @@ left-owes R bin.Eq e = owes R e
 left-owes R bin.Ne e = owes R e
 
 module _ {R : Resource} {cap : ℕ} where
-  -- a word whose register is open, or a comparison's jump, owes nothing
+  -- a word whose register is open owes nothing
   spends-open : {c pc : ℕ} (e : ExprContext) → Spends R cap c (return (with-kind Relocable pc e)) (owes R) Any
   spends-open e = at-most (spends-return _ tt) (omega arith)
 
@@ -85,18 +85,18 @@ module _ {R : Resource} {cap : ℕ} where
 
   takes-free-in-turn : (a b : ExprContext) → Takes R cap 0 (free-in-turn a b)
   unfolding free-in-turn
-  takes-free-in-turn a b = free-then (takes-free-expr a) (λ _. takes-free-expr b)
+  takes-free-in-turn a b = nothing-then (takes-free-expr a) (λ _. takes-free-expr b)
 
   takes-free-both : (e₁ e₂ : ExprContext) → Takes R cap 0 (free-both e₁ e₂)
   unfolding free-both
-  takes-free-both e₁ e₂ = gives-if (ltb (rk e₂) (rk e₁)) (λ _. takes-free-in-turn e₁ e₂) (λ _. takes-free-in-turn e₂ e₁)
+  takes-free-both e₁ e₂ = spends-if (ltb (rk e₂) (rk e₁)) (λ _. takes-free-in-turn e₁ e₂) (λ _. takes-free-in-turn e₂ e₁)
 
   takes-exp2rk : (e : ExprContext) → Takes R cap (brings R e) (exp2rk e)
   takes-exp2rk e = takes (spends-exp2rk e)
 
   spends-emit-arith : (o : Arith) (e₁ e₂ : ExprContext) → Spends R cap (brings R e₁ + brings R e₂ + per-word R) (emit-arith o e₁ e₂) (owes R) Any
   unfolding emit-arith
-  spends-emit-arith o e₁ e₂ = at-most (takes-then (takes-exp2rk e₂) (λ c. takes-then (takes-exp2rk e₁) (λ b. free-then (takes-free-both b c) (λ _. takes-then (takes-emit _) (λ pc. spends-open {c = 0} b))))) (omega arith)
+  spends-emit-arith o e₁ e₂ = at-most (takes-then (takes-exp2rk e₂) (λ c. takes-then (takes-exp2rk e₁) (λ b. nothing-then (takes-free-both b c) (λ _. takes-then (takes-emit _) (λ pc. spends-open {c = 0} b))))) (omega arith)
 
   spends-code-arith : (o : Arith) (e₁ e₂ : ExprContext) → Light R e₁ → Spends R cap (owes R e₁ + owes R e₂ + 8 * per-word R) (code-arith o e₁ e₂) (owes R) Any
   unfolding code-arith
@@ -104,13 +104,13 @@ module _ {R : Resource} {cap : ℕ} where
 
   spends-code-unary : (o : OpCode) (e : ExprContext) → Spends R cap (owes R e + 5 * per-word R) (code-unary o e) (owes R) Any
   unfolding code-unary
-  spends-code-unary o e = at-most (takes-then (takes (gives-exp2anyreg e)) (λ e₁. free-then (takes-free-expr e₁) (λ _. takes-then (takes-emit _) (λ pc. spends-open {c = 0} e₁)))) (omega (arith, brings-most R e))
+  spends-code-unary o e = at-most (takes-then (takes (gives-exp2anyreg e)) (λ e₁. nothing-then (takes-free-expr e₁) (λ _. takes-then (takes-emit _) (λ pc. spends-open {c = 0} e₁)))) (omega (arith, brings-most R e))
 
   spends-code-concat : (e₁ e₂ : ExprContext) → Spends R cap (brings R e₁ + brings R e₂ + per-word R) (code-concat e₁ e₂) (owes R) Any
   unfolding code-concat
   spends-code-concat e₁ e₂ =
       at-most (takes-then (takes (gives-exp2nextreg e₂)) (λ c.
-      takes-then (takes (gives-exp2anyreg e₁)) (λ b. free-then (takes-free-expr c) (λ _. free-then (takes-free-expr b) (λ _. takes-then (takes-emit _) (λ pc. spends-open {c = 0} b)))))) (omega arith)
+      takes-then (takes (gives-exp2anyreg e₁)) (λ b. nothing-then (takes-free-expr c) (λ _. nothing-then (takes-free-expr b) (λ _. takes-then (takes-emit _) (λ pc. spends-open {c = 0} b)))))) (omega arith)
 
   -- ---- comparisons
 
@@ -125,17 +125,17 @@ module _ {R : Resource} {cap : ℕ} where
 
   spends-emit-comp : (o : OpCode) (cond swapped : Bool) (b c : ExprContext) → Spends R cap (2 * per-word R) (emit-comp o cond swapped b c) (owes R) Any
   unfolding emit-comp
-  spends-emit-comp o cond swapped b c = at-most (free-then (takes-free-both b c) (λ _. takes-then (takes-emit _) (λ _. takes-then takes-emit-jump (λ list. at-most {d = 0} (spends-return _ tt) (omega arith))))) (omega arith)
+  spends-emit-comp o cond swapped b c = at-most (nothing-then (takes-free-both b c) (λ _. takes-then (takes-emit _) (λ _. takes-then takes-emit-jump (λ list. at-most {d = 0} (spends-return _ tt) (omega arith))))) (omega arith)
 
   spends-code-comp : (o : OpCode) (cond swapped : Bool) (e₁ e₂ : ExprContext) → Light R e₁ → Spends R cap (owes R e₁ + owes R e₂ + 8 * per-word R) (code-comp o cond swapped e₁ e₂) (owes R) Any
   unfolding code-comp
-  spends-code-comp o cond swapped e₁ e₂ l = at-most (free-then (takes-far-numeral e₁) (λ far. spends-compare-operands far e₁ e₂ (spends-emit-comp o cond swapped))) (omega (arith, brings-most R e₂, l))
+  spends-code-comp o cond swapped e₁ e₂ l = at-most (nothing-then (takes-far-numeral e₁) (λ far. spends-compare-operands far e₁ e₂ (spends-emit-comp o cond swapped))) (omega (arith, brings-most R e₂, l))
 
   -- ---- before and after the right operand
 
   spends-operand : (e : ExprContext) → Spends R cap (owes R e + 4 * per-word R) (operand e) (owes R) (Light R)
   unfolding operand
-  spends-operand e = gives-if (is-numeral e) (λ h. at-most (spends-return e (numeral-light R e h)) (omega arith)) (λ _. at-most (spends-exp2rk e) (omega (arith, brings-most R e)))
+  spends-operand e = spends-if (is-numeral e) (λ h. at-most (spends-return e (numeral-light R e h)) (omega arith)) (λ _. at-most (spends-exp2rk e) (omega (arith, brings-most R e)))
 
   pub spends-before-right : (o : BinOp) (e : ExprContext) → Spends R cap (owes R e + 4 * per-word R) (before-right o e) (left-owes R o) (Ready R o)
   unfolding before-right
@@ -155,23 +155,23 @@ module _ {R : Resource} {cap : ℕ} where
   spends-before-right bin.Eq e = spends-operand e
   spends-before-right bin.Ne e = spends-operand e
 
-  -- the right value, with other jumps
+  -- the right value of `and` and `or`, discharged
   spends-joined : (e : ExprContext) → Spends R cap (owes R e + 8 * per-word R) (discharge-vars e) (owes R) Any
   spends-joined e = at-most (spends-less (spends-discharge-vars e) (λ e₁ h. (omega arith, tt))) (omega (arith, load-most R (e .kind)))
 
   spends-code-and : (e₁ e₂ : ExprContext) → Spends R cap (owes R e₂ + 8 * per-word R) (code-and e₁ e₂) (owes R) Any
   unfolding code-and
-  spends-code-and e₁ e₂ = at-most (spends-then 0 (spends-joined e₂) (λ e₃ _. at-most (free-then (takes-concat (e₃ .f) (e₁ .f)) (λ f. spends-return (with-jumps (e₃ .t) f e₃) tt)) (omega arith))) (omega arith)
+  spends-code-and e₁ e₂ = at-most (spends-then 0 (spends-joined e₂) (λ e₃ _. at-most (nothing-then (takes-concat (e₃ .f) (e₁ .f)) (λ f. spends-return (with-jumps (e₃ .t) f e₃) tt)) (omega arith))) (omega arith)
 
   spends-code-or : (e₁ e₂ : ExprContext) → Spends R cap (owes R e₂ + 8 * per-word R) (code-or e₁ e₂) (owes R) Any
   unfolding code-or
-  spends-code-or e₁ e₂ = at-most (spends-then 0 (spends-joined e₂) (λ e₃ _. at-most (free-then (takes-concat (e₃ .t) (e₁ .t)) (λ t. spends-return (with-jumps t (e₃ .f) e₃) tt)) (omega arith))) (omega arith)
+  spends-code-or e₁ e₂ = at-most (spends-then 0 (spends-joined e₂) (λ e₃ _. at-most (nothing-then (takes-concat (e₃ .t) (e₁ .t)) (λ t. spends-return (with-jumps t (e₃ .f) e₃) tt)) (omega arith))) (omega arith)
 
   spends-join-concat : (e₁ e₂ : ExprContext) → Light R e₁ → Spends R cap (owes R e₁ + owes R e₂ + 8 * per-word R) (join-concat e₁ e₂) (owes R) Any
   unfolding join-concat
-  spends-join-concat e₁ e₂ l = at-most (val-then e₂ (3 * per-word R + owes R e₁) (λ e₃. free-then takes-words (λ code.
-      gives-if {c = brings R e₃ + (3 * per-word R + owes R e₁)} (isKind Relocable e₃ && isOp op.Concat (word code (e₃ .info)))
-      (λ _. free-then (takes-free-expr e₁) (λ _. free-then (takes-change-word (e₃ .info) (λ w. setBOf w (e₁ .info))) (λ _. spends-open e₁)))
+  spends-join-concat e₁ e₂ l = at-most (val-then e₂ (3 * per-word R + owes R e₁) (λ e₃. nothing-then takes-code-now (λ code.
+      spends-if {c = brings R e₃ + (3 * per-word R + owes R e₁)} (isKind Relocable e₃ && isOp op.Concat (word code (e₃ .info)))
+      (λ _. nothing-then (takes-free-expr e₁) (λ _. nothing-then (takes-change-word (e₃ .info) (λ w. setBOf w (e₁ .info))) (λ _. spends-open e₁)))
       (λ _. gives-then (gives-exp2nextreg e₃) (λ e₄ b. at-most {d = 3 * per-word R + owes R e₁} (spends-code-concat e₁ e₄) (omega (arith, bare-light R e₄ b .0, bare-light R e₄ b .1, l))))))) (omega (arith, brings-most R e₂))
 
   pub spends-after-right : (o : BinOp) (e₁ e₂ : ExprContext) → Ready R o e₁ → Spends R cap (left-owes R o e₁ + owes R e₂ + 8 * per-word R) (after-right o e₁ e₂) (owes R) Any

@@ -1,4 +1,4 @@
--- How much to lend: with 8n + 1 words and lines, n constants, a pool as long as the chunk and a scratch of n, for n nodes, up to 16,383 of them, a chunk that has the form is lowered or needs more than 250 registers; and n is at most half the chunk's length.
+-- How much to lend: with 8n + 1 words and lines, n constants, a pool as long as the chunk and a scratch of n, for n nodes, up to 16,383 of them, a chunk that has the form is lowered or needs more than 250 registers; and n is at most half the chunk's length, which alone tells how much to lend up to 32,767 bytes.
 -- From `bounded`, and from `padded`, by the number of the refusal.
 use Prim.Native.Nat.{ℕ, _+_, _*_, _/_, _≤_}
 use mathlib.Core.Path.{_≡_, refl, ap, _∙_, subst}
@@ -65,6 +65,7 @@ two-bytes chunk c form =
     let va = a .head .varargs in
     omega (arith, exprs-behind chunk (exprAt chunk va maxNesting) (expr-behind chunk va maxNesting) (a .head .formulas) (c .formulas) (a .head .next) 1 (a .at) (a .line) (a .formulas), a .whole)
 
+-- what to lend by a chunk's length alone, for one of n bytes, up to 32,767
 pub record Lends (z : Sizes) (n : ℕ) : Type 0 where
   pub short : n ≤ 32767
   pub code : 4 * n + 1 ≤ z .code

@@ -113,9 +113,11 @@ module _ {R : Resource} {cap : ℕ} where
   pub holding : {A : Type 0} {φ : A → ℕ} {P : A → Type 0} {c : ℕ} {x : Step A} (k : ℕ) → Spends R cap c x φ P → Spends R cap (k + c) x (λ a. k + φ a) P
   holding k g s m l = leaves-hold k (g s m l)
 
+  -- holding on to nothing
   pub takes : {A : Type 0} {φ : A → ℕ} {P : A → Type 0} {c : ℕ} {x : Step A} → Spends R cap c x φ P → Takes R cap c x
   takes g = spends-less g (λ a p. (omega arith, tt))
 
+  -- one step and then another: the second may take what the first's answer holds on to, and d more
   pub then-leaves : {A B : Type 0} {φ : A → ℕ} {ψ : B → ℕ} {P : A → Type 0} {Q : B → Type 0} {c n at line at′ line′ : ℕ} {r : Result A} {f : A → Step B} (d : ℕ) → Leaves R cap c n at line φ P r →
       ((a : A) (s : State) (m : Buffers) → P a → s .at ≡ at → s .line ≡ line → Room R cap m → Leaves R cap (φ a + d) (used R s) at′ line′ ψ Q (f a s m)) → Leaves R cap (c + d) n at′ line′ ψ Q (andThen r f)
   unfolding andThen
@@ -132,11 +134,11 @@ module _ {R : Resource} {cap : ℕ} where
   takes-then g h = gives-then g (λ a p. h a)
 
   -- a part that takes nothing, before and behind
-  pub free-then : {A B : Type 0} {ψ : B → ℕ} {Q : B → Type 0} {d : ℕ} {x : Step A} {f : A → Step B} → Takes R cap 0 x → ((a : A) → Spends R cap d (f a) ψ Q) → Spends R cap d (x >>= f) ψ Q
-  free-then g h = at-most (takes-then g h) (omega arith)
+  pub nothing-then : {A B : Type 0} {ψ : B → ℕ} {Q : B → Type 0} {d : ℕ} {x : Step A} {f : A → Step B} → Takes R cap 0 x → ((a : A) → Spends R cap d (f a) ψ Q) → Spends R cap d (x >>= f) ψ Q
+  nothing-then g h = at-most (takes-then g h) (omega arith)
 
-  pub then-free : {A B : Type 0} {Q : B → Type 0} {c : ℕ} {x : Step A} {f : A → Step B} → Takes R cap c x → ((a : A) → Gives R cap 0 (f a) Q) → Gives R cap c (x >>= f) Q
-  then-free g h = at-most (takes-then g h) (omega arith)
+  pub then-nothing : {A B : Type 0} {Q : B → Type 0} {c : ℕ} {x : Step A} {f : A → Step B} → Takes R cap c x → ((a : A) → Gives R cap 0 (f a) Q) → Gives R cap c (x >>= f) Q
+  then-nothing g h = at-most (takes-then g h) (omega arith)
 
   -- ---- the parts of a step
 
@@ -158,15 +160,15 @@ module _ {R : Resource} {cap : ℕ} where
   pub takes-get : Takes R cap 0 get
   takes-get s m l = left s s m tt (omega arith) refl refl l
 
-  pub takes-words : Takes R cap 0 code-now
-  takes-words s m l = left (m .code) s m tt (omega arith) refl refl l
+  pub takes-code-now : Takes R cap 0 code-now
+  takes-code-now s m l = left (m .code) s m tt (omega arith) refl refl l
 
-  pub gives-if : {A : Type 0} {φ : A → ℕ} {P : A → Type 0} {c : ℕ} (t : Bool) {x y : Step A} → (t ≡ true → Spends R cap c x φ P) → (t ≡ false → Spends R cap c y φ P) → Spends R cap c {A = A} (elim t [ true ↦ x | false ↦ y ]) φ P
-  gives-if true g h = g refl
-  gives-if false g h = h refl
+  pub spends-if : {A : Type 0} {φ : A → ℕ} {P : A → Type 0} {c : ℕ} (t : Bool) {x y : Step A} → (t ≡ true → Spends R cap c x φ P) → (t ≡ false → Spends R cap c y φ P) → Spends R cap c {A = A} (elim t [ true ↦ x | false ↦ y ]) φ P
+  spends-if true g h = g refl
+  spends-if false g h = h refl
 
   pub takes-when : {c : ℕ} (t : Bool) {x : Step (Unit {0})} → Takes R cap c x → Takes R cap c (when t x)
-  takes-when t g = gives-if t (λ _. g) (λ _. at-most takes-skip (omega arith))
+  takes-when t g = spends-if t (λ _. g) (λ _. at-most takes-skip (omega arith))
 
 -- what neither adds words nor constants
 pub used-same : (R : Resource) (s t : State) → t .pc ≡ s .pc → t .table ≡ s .table → used R t ≡ used R s

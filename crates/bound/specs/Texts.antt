@@ -86,9 +86,9 @@ BehindFront at (front.Front k place line) = at + 2 ≤ place
 BehindFront at (front.Refused x) = Unit {0}
 
 module _ (s : List ℕ) where
-  text-starts : (at : ℕ) (t : Text) → textAt s at ≡ text-read.Text t → at + t .len ≤ endOf t
+  text-behind : (at : ℕ) (t : Text) → textAt s at ≡ text-read.Text t → at + t .len ≤ endOf t
   unfolding textAt
-  text-starts at t e = go (hasBytes s at 2) (hasBytes s (at + 2) (le2 s at)) e
+  text-behind at t e = go (hasBytes s at 2) (hasBytes s (at + 2) (le2 s at)) e
     where
       go : (x y : Bool) → elim x as (λ (_ : Bool). TextRead) [ true ↦ elim y as (λ (_ : Bool). TextRead) [ true ↦ text-read.Text (record { start = at + 2; len = le2 s at }) | false ↦ text-read.NoText ] | false ↦ text-read.NoText ] ≡ text-read.Text t → at + t .len ≤ endOf t
       go true true q = let z : record { start = at + 2; len = le2 s at } ≡ t = cc in omega (arith, ap (λ y. y .start) z)
@@ -101,14 +101,14 @@ module _ (s : List ℕ) where
   fields-behind va True at line = omega arith
   fields-behind va False at line = omega arith
   fields-behind va Number at line = on-bits (BehindFields at) _ tt (bitsAt s at) _ λ b e. omega arith
-  fields-behind va Str at line = on-text (BehindFields at) _ tt (textAt s at) _ λ t e. text-starts at t e
+  fields-behind va Str at line = on-text (BehindFields at) _ tt (textAt s at) _ λ t e. text-behind at t e
   fields-behind va VarArg at line = on-require (BehindFields at) _ tt va _ (omega arith)
-  fields-behind va Name at line = on-text (BehindFields at) _ tt (textAt s at) _ λ t e. text-starts at t e
+  fields-behind va Name at line = on-text (BehindFields at) _ tt (textAt s at) _ λ t e. text-behind at t e
   fields-behind va Binary at line = on-byte (BehindFields at) _ tt (byteAt s at) _ λ b e. on-bin (BehindFields at) _ tt (binOpOf b) _ λ o. omega arith
   fields-behind va Unary at line = on-byte (BehindFields at) _ tt (byteAt s at) _ λ b e. on-un (BehindFields at) _ tt (unOpOf b) _ λ o. omega arith
   fields-behind va Index at line = omega arith
-  fields-behind va Field at line = on-text (BehindFields at) _ tt (textAt s at) _ λ t e. text-starts at t e
-  fields-behind va MethodCall at line = on-text (BehindFields at) _ tt (textAt s at) _ λ t e. on-byte (BehindFields at) _ tt (byteAt s (endOf t)) _ λ n g. omega (arith, text-starts at t e)
+  fields-behind va Field at line = on-text (BehindFields at) _ tt (textAt s at) _ λ t e. text-behind at t e
+  fields-behind va MethodCall at line = on-text (BehindFields at) _ tt (textAt s at) _ λ t e. on-byte (BehindFields at) _ tt (byteAt s (endOf t)) _ λ n g. omega (arith, text-behind at t e)
   fields-behind va Call at line = on-byte (BehindFields at) _ tt (byteAt s at) _ λ n e. omega arith
   fields-behind va Paren at line = omega arith
 

@@ -1,4 +1,4 @@
--- What was parsed: a tree that was read behind another, a node behind its fields, and the lowering of a node that was read. By the cases of reading.
+-- What was parsed: a tree that was read behind another, a tree behind its node, and the lowering of a node that was read. By the cases of reading.
 use Prim.Native.Nat.{ℕ, suc}
 use mathlib.Core.Path.{_≡_, refl, ap}
 use mathlib.Core.List.{List}
