@@ -28,7 +28,7 @@ use Rattle.faithful.specs.Cases.{lowered-cases}
 use Rattle.bound.specs.Takes.{Resource, words, entries, text, used, per-word, want, Room, Leaves, left, none, Any, not-wanting, takes-skip}
 use Rattle.bound.specs.Emission.{takes-emit, takes-reserve-regs}
 use Rattle.bound.specs.Expressions.{own-leaf, own-one, own-many, cost, costs, held, Reads, stays, reads-then, moved, more-of, takes-nextreg, expr-at}
-use Rattle.bound.specs.Texts.{exprs-behind, expr-behind}
+use Rattle.bound.specs.Texts.{in-chunk}
 
 -- ---- the statement
 
@@ -129,7 +129,7 @@ module _ (z : Sizes) (chunk : List ℕ) where
         more-of (reads-then 0 (stays (takes-emit _) (a .at) (a .line)) (λ _ _. stays takes-skip (a .at) (a .line))) (omega arith))) (omega arith))) refl refl (omega arith) (start (a .head .next) (a .head .locals)) (cleared z) refl refl l) (used-start R (a .head .next) (a .head .locals))
 
     texts : costs text (c .formulas) ≤ length chunk
-    texts = omega (arith, exprs-behind chunk (exprAt chunk (a .head .varargs) maxNesting) (expr-behind chunk (a .head .varargs) maxNesting) (a .head .formulas) (c .formulas) (a .head .next) 1 (a .at) (a .line) (a .formulas), a .whole)
+    texts = omega (arith, in-chunk chunk c a)
 
     -- the same chunk
     same-chunk : (c′ : Chunk) → formOf chunk ≡ formed c′ → c′ ≡ c

@@ -9,13 +9,13 @@ use Rattle.refusals.specs.Number.{numberOf}
 use Rattle.refusals.specs.declared.Refusal.{Refusal}
 use Rattle.refusals.specs.declared.Refusal.the-variants as refusal
 use Rattle.chunk.specs.Ast.{Chunk, spansOf, placesOf}
-use Rattle.chunk.specs.Form.{exprAt, formed, formOf, maxNesting}
+use Rattle.chunk.specs.Form.{formed, formOf}
 use Rattle.model.specs.declared.Lowered.the-variants as answer
 use Rattle.model.specs.Claims.{Due, by-form, by-scratch, by-lowering, Padded, Bytes}
 use Rattle.model.specs.Lowering.{Sizes, lowered}
-use Rattle.faithful.specs.Accepted.{Accepted, accepted}
+use Rattle.faithful.specs.Accepted.{accepted}
 use Rattle.padding.specs.Padded.{padded}
-use Rattle.bound.specs.Texts.{exprs-behind, expr-behind}
+use Rattle.bound.specs.Texts.{in-chunk}
 use Rattle.bound.specs.Bounded.{nodes, Enough, Bounded, bounded}
 
 pub record Suffices (z : Sizes) (chunk : List ℕ) (c : Chunk) : Type 0 where
@@ -60,10 +60,7 @@ suffices z chunk bytes c form h x e =
 
 -- a node has two bytes at least
 pub two-bytes : (chunk : List ℕ) (c : Chunk) → formOf chunk ≡ formed c → 2 * nodes c ≤ length chunk
-two-bytes chunk c form =
-    let a : Accepted chunk c = accepted chunk c form in
-    let va = a .head .varargs in
-    omega (arith, exprs-behind chunk (exprAt chunk va maxNesting) (expr-behind chunk va maxNesting) (a .head .formulas) (c .formulas) (a .head .next) 1 (a .at) (a .line) (a .formulas), a .whole)
+two-bytes chunk c form = omega (arith, in-chunk chunk c (accepted chunk c form))
 
 -- what to lend by a chunk's length alone, for one of n bytes, up to 32,767
 pub record Lends (z : Sizes) (n : ℕ) : Type 0 where

@@ -27,8 +27,9 @@ use Rattle.nodes.specs.declared.node.Front.{Front}
 use Rattle.nodes.specs.declared.node.Front.the-variants as front
 use Rattle.nodes.specs.declared.node.NodeRead.{NodeRead}
 use Rattle.nodes.specs.declared.node.NodeRead.the-variants as read
-use Rattle.chunk.specs.Ast.{Span, Expr, leaf as leaf-node, one as one-node, two as two-node, many as many-node, Exprs, none as no-more, more, spans, spansOf}
+use Rattle.chunk.specs.Ast.{Span, Expr, leaf as leaf-node, one as one-node, two as two-node, many as many-node, Exprs, none as no-more, more, spans, spansOf, Chunk}
 use Rattle.chunk.specs.Form.{Parsed, parsed, exprsAt, rest, exprAt, maxNesting}
+use Rattle.faithful.specs.Accepted.{Accepted}
 use Rattle.simulation.specs.Parsing.{invert, same-parsed, node-is}
 use Rattle.bound.specs.Takes.{text}
 use Rattle.bound.specs.Expressions.{own-leaf, own-one, own-many, cost, costs}
@@ -136,7 +137,7 @@ module _ (s : List ℕ) where
 
   -- sub-expressions are read by F
   module _ (F : ℕ → ℕ → Parsed Expr) (reads : (a : Expr) (at line at′ line′ : ℕ) → F at line ≡ parsed a at′ line′ → at + bytes a ≤ at′) where
-    pub exprs-behind : (n : ℕ) (es : Exprs) (at line at′ line′ : ℕ) → exprsAt F n at line ≡ parsed es at′ line′ → at + bytes-all es ≤ at′
+    exprs-behind : (n : ℕ) (es : Exprs) (at line at′ line′ : ℕ) → exprsAt F n at line ≡ parsed es at′ line′ → at + bytes-all es ≤ at′
     unfolding exprsAt
     exprs-behind zero es at line at′ line′ e = let w = same-parsed no-more es at line at′ line′ e in omega (arith, bytes-none, ap bytes-all (w .0), w .1 .0)
     exprs-behind (suc n) es at line at′ line′ e =
@@ -163,7 +164,7 @@ module _ (s : List ℕ) where
         let w = same-parsed (many-node sp k (v .value) (u .value)) d (u .place) (u .own-line) at′ line′ (u .then) in
         omega (arith, reads (v .value) at line (v .place) (v .own-line) (v .first), exprs-behind n (u .value) (v .place) (v .own-line) (u .place) (u .own-line) (u .first), bytes-many sp k (v .value) (u .value), ap bytes (w .0), w .1 .0)
 
-  pub expr-behind : (va : Bool) (left : ℕ) (a : Expr) (at line at′ line′ : ℕ) → exprAt s va left at line ≡ parsed a at′ line′ → at + bytes a ≤ at′
+  expr-behind : (va : Bool) (left : ℕ) (a : Expr) (at line at′ line′ : ℕ) → exprAt s va left at line ≡ parsed a at′ line′ → at + bytes a ≤ at′
   unfolding exprAt
   expr-behind va zero a at line at′ line′ e = absurd (let y : _≡_ {A = ℕ} 0 1 = cc in omega arith)
   expr-behind va (suc left) a at line at′ line′ e =
@@ -171,3 +172,9 @@ module _ (s : List ℕ) where
       let n = v .0 in
       let h : at + (2 + own (n .head)) ≤ n .next = subst (Behind at) (v .1 .0) (node-behind va at line) in
       omega (arith, h, head-behind (exprAt s va left) (expr-behind va left) (record { line = n .line; place = at; nesting = maxNesting - left }) (n .head) a (n .next) (n .line) at′ line′ (v .1 .1))
+
+  -- the nodes of an accepted chunk lie in its bytes
+  pub in-chunk : (c : Chunk) → Accepted s c → bytes-all (c .formulas) ≤ length s
+  in-chunk c a =
+      let va = a .head .varargs in
+      omega (arith, exprs-behind (exprAt s va maxNesting) (expr-behind va maxNesting) (a .head .formulas) (c .formulas) (a .head .next) 1 (a .at) (a .line) (a .formulas), a .whole)
