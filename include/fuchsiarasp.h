@@ -4,7 +4,7 @@
  * The archive libcontroller.a (`rt staticlib controller`) defines fuchsiarasp_lower and needs only memset and memcpy beside it.
  * It is for x86-64 Linux. It allocates nothing, keeps nothing between calls and reads and writes only what it is lent and its stack, so
  * calls from several threads with buffers of their own don't meet. A call takes up to about 520 kB of stack (measured: calls nested
- * as arguments to nesting 200; other chunks took less): have 1 MB. Its time grows with nodes times constants: usual chunks take some 50 to 100
+ * as arguments to nesting 200; other chunks took less): have 1 MB. Its time grows with nodes times constants: usual chunks take some 50 to 125
  * nanoseconds a node, one of 919,025 bytes with 135,000 different texts took 10 seconds.
  */
 #ifndef FUCHSIARASP_H
