@@ -17,7 +17,7 @@ use Rattle.model.specs.Jumps.{get-jump-control}
 use Rattle.model.specs.Conditions.{bit, pop, invertjump, is-not, jumponcond, jump-if-false, jump-if-true, goiftrue, goiffalse, emit-not, negate, code-not}
 use Rattle.bound.specs.Takes.{Resource, words, entries, text, used, per-word, per-constant, left, Spends, Takes, Any, at-most, spends-then, takes-then, nothing-then, then-nothing, spends-return, takes-return, takes-code-now, spends-if, room-same}
 use Rattle.bound.specs.Emission.{takes-change-word, takes-emit, takes-concat, takes-remove, takes-emit-jump, takes-patch-to-here}
-use Rattle.bound.specs.Discharge.{due, owes, value, dv-then, takes-free-expr, takes-discharge2anyreg}
+use Rattle.bound.specs.Discharge.{due, owes, value, spends-open, dv-then, takes-free-expr, takes-discharge2anyreg}
 
 popped : (R : Resource) (s : State) → used R (with-pc (s .pc - 1) s) ≤ used R s
 popped words s = omega arith
@@ -83,10 +83,9 @@ module _ {R : Resource} {cap : ℕ} where
   unfolding goiffalse
   takes-goiffalse e = dv-then e (2 * per-word R) (λ e₁ h. then-nothing (takes-jump-if-true (e₁ .kind) e₁) (λ list. nothing-then (takes-concat (e₁ .t) list) (λ t. nothing-then (takes-patch-to-here (e₁ .f)) (λ _. takes-return _))))
 
-  -- a word whose register is open owes nothing
   spends-emit-not : (e : ExprContext) → Spends R cap (value R e + per-word R) (emit-not e) (owes R) Any
   unfolding emit-not
-  spends-emit-not e = at-most (takes-then (takes-discharge2anyreg e) (λ e₁. nothing-then (takes-free-expr e₁) (λ _. takes-then (takes-emit _) (λ pc. at-most {d = 0} (spends-return (with-kind Relocable pc e₁) tt) (omega arith))))) (omega arith)
+  spends-emit-not e = at-most (takes-then (takes-discharge2anyreg e) (λ e₁. nothing-then (takes-free-expr e₁) (λ _. takes-then (takes-emit _) (λ pc. spends-open {c = 0} e₁)))) (omega arith)
 
   -- a descriptor without a word
   spends-kept : {c : ℕ} (e : ExprContext) → owes R e ≤ c → Spends R cap c (return e) (owes R) Any

@@ -16,7 +16,7 @@ use Rattle.model.specs.Descriptor.{with-kind, with-jumps, has-jumps, tagOf, isK
 use Rattle.model.specs.Steps.{Step, andThen, _>>=_, _>>_, return, when}
 use Rattle.model.specs.Jumps.{jump-list, need-value}
 use Rattle.model.specs.Discharge.{discharge-kind, discharge-vars, free-expr, number-constant, move, load-kind, discharge2reg, discharge2anyreg, land, load-both, settle, join-jump, exp2reg, exp2nextreg, exp2anyreg}
-use Rattle.bound.specs.Takes.{Resource, per-word, per-constant, left, Spends, Gives, Takes, at-most, spends-less, takes, spends-then, gives-then, takes-then, nothing-then, then-nothing, spends-return, gives-return, takes-return, takes-skip, takes-get, takes-code-now, spends-if, takes-when}
+use Rattle.bound.specs.Takes.{Resource, per-word, per-constant, left, Spends, Gives, Takes, Any, at-most, spends-less, takes, spends-then, gives-then, takes-then, nothing-then, then-nothing, spends-return, gives-return, takes-return, takes-skip, takes-get, takes-code-now, spends-if, takes-when}
 use Rattle.bound.specs.Emission.{takes-add-constant, takes-change-word, takes-emit, takes-concat, takes-patch-list, takes-emit-jump, takes-patch-to-here, takes-get-label, takes-code-label, takes-emit-nil, takes-alloc-reg, takes-free-reg}
 
 -- ---- prices
@@ -163,6 +163,10 @@ pub same-kind : (k : ExprKind) (i : ℕ) (e : ExprContext) → isKind Jmp (with-
 same-kind k i e j h = record { has = refl; pending = ap (λ b. has-jumps e || b) (j ∙ sym h) }
 
 module _ {R : Resource} {cap : ℕ} where
+  -- a word whose register is open owes nothing
+  pub spends-open : {c pc : ℕ} (e : ExprContext) → Spends R cap c (return (with-kind Relocable pc e)) (owes R) Any
+  spends-open e = at-most (spends-return _ tt) (omega arith)
+
   spends-dv : (k : ExprKind) (e : ExprContext) → e .kind ≡ k → Spends R cap (value R e) (discharge-kind k e) (value R) (Same e)
   unfolding discharge-kind
   spends-dv Nil e p = spends-return e (same e)

@@ -19,14 +19,14 @@ use Rattle.ast.specs.declared.UnOp.{UnOp}
 use Rattle.ast.specs.declared.UnOp.the-variants as un
 use Rattle.model.specs.declared.ExprKind.the-variants.{KNum, Relocable}
 use Rattle.model.specs.declared.ExprContext.{ExprContext}
-use Rattle.model.specs.Descriptor.{newOf, with-kind, with-jumps, tagOf, isKind, is-numeral}
-use Rattle.model.specs.Steps.{Step, return}
+use Rattle.model.specs.Descriptor.{newOf, with-jumps, tagOf, isKind, is-numeral}
+use Rattle.model.specs.Steps.{Step}
 use Rattle.model.specs.Jumps.{word, isOp}
 use Rattle.model.specs.Discharge.{discharge-vars, exp2rk, rk}
 use Rattle.model.specs.Operators.{const-fold, unless-folded, free-in-turn, free-both, emit-arith, code-arith, code-unary, code-concat, far-numeral, compare-operands, emit-comp, code-comp, operand, before-right, code-and, code-or, join-concat, after-right, code-unop}
 use Rattle.bound.specs.Takes.{Resource, per-word, per-constant, left, Spends, Takes, Any, at-most, spends-less, takes, spends-then, gives-then, takes-then, nothing-then, spends-return, takes-code-now, spends-if}
 use Rattle.bound.specs.Emission.{takes-change-word, takes-emit, takes-concat, takes-emit-jump}
-use Rattle.bound.specs.Discharge.{load-most, owes, brings, brings-most, Light, light, bare-light, spends-discharge-vars, takes-free-expr, gives-exp2nextreg, gives-exp2anyreg}
+use Rattle.bound.specs.Discharge.{load-most, owes, brings, brings-most, Light, light, bare-light, spends-open, spends-discharge-vars, takes-free-expr, gives-exp2nextreg, gives-exp2anyreg}
 use Rattle.bound.specs.Operands.{spends-exp2rk, val-then}
 use Rattle.bound.specs.Conditions.{takes-goiftrue, takes-goiffalse, spends-code-not}
 
@@ -73,10 +73,6 @@ left-owes R bin.Eq e = owes R e
 left-owes R bin.Ne e = owes R e
 
 module _ {R : Resource} {cap : ℕ} where
-  -- a word whose register is open owes nothing
-  spends-open : {c pc : ℕ} (e : ExprContext) → Spends R cap c (return (with-kind Relocable pc e)) (owes R) Any
-  spends-open e = at-most (spends-return _ tt) (omega arith)
-
   -- ---- arithmetic
 
   spends-unless-folded : {c : ℕ} (f : Fold) (e : ExprContext) {x : Step ExprContext} → owes R e ≤ c → Spends R cap c x (owes R) Any → Spends R cap c (unless-folded f e x) (owes R) Any
