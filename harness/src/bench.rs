@@ -2,6 +2,7 @@
 use crate::chunk;
 use crate::chunks::{Rng, Writer};
 use crate::ours::{Buffers, Sizes};
+use rilua::Out;
 use rilua::compiler::codegen;
 use std::hint::black_box;
 use std::time::Instant;
@@ -69,15 +70,47 @@ fn fitting(n: usize, constants: usize, text: usize) -> Buffers {
     Buffers::new(&Sizes { code: 8 * n + 1, lines: 8 * n + 1, kinds: constants, values: constants, pool: text, scratch: n, counts: 4 })
 }
 
+/// A list and then zeros.
+fn put<T: Copy + Default>(buffer: &mut [T], list: impl ExactSizeIterator<Item = T>) {
+    let (front, behind) = buffer.split_at_mut(list.len());
+    for (to, x) in front.iter_mut().zip(list) { *to = x; }
+    behind.fill(T::default());
+}
+
+/// What is left to do with the Rust's result until the lent buffers hold what ours leaves there; but no places in the scratch, which the Rust doesn't know: zeros there.
+fn put_all(b: &mut Buffers, o: &Out) {
+    put(&mut b.code, o.code.iter().copied());
+    put(&mut b.lines, o.lines.iter().copied());
+    put(&mut b.kinds, o.consts.iter().map(|c| c.0));
+    put(&mut b.values, o.consts.iter().map(|c| c.1));
+    put(&mut b.pool, o.pool.iter().copied());
+    put(&mut b.scratch, [].into_iter());
+    put(&mut b.counts, [o.code.len() as u64, o.consts.len() as u64, o.pool.len() as u64, u64::from(o.frame)].into_iter());
+}
+
+/// What ours left is what the Rust's result leaves there.
+fn same_but_scratch(ours: &Buffers, o: &Out) {
+    let mut b = Buffers::new(&ours.sizes());
+    put_all(&mut b, o);
+    assert!(b.code == ours.code && b.lines == ours.lines && b.kinds == ours.kinds && b.values == ours.values && b.pool == ours.pool && b.counts == ours.counts, "the same result");
+}
+
+/// The Rust from the chunk's bytes.
+fn rust(bytes: &[u8]) -> Out {
+    let t = chunk::read(bytes).expect("the form");
+    codegen::drive::drive(&t.locals, t.varargs, &t.formulas).expect("accepted by the Rust")
+}
+
 pub fn run(only: Option<&str>) -> i32 {
     let mut rows = 0;
     println!("Nanoseconds per node, median of {ROUNDS} rounds in which the columns take turns.");
     println!("ours: the whole call, from bytes, clearing included; `8n+1`: buffers of 8n + 1 words and lines, constants and text as needed, scratch n;");
     println!("`weavelist`: 8192 words and lines, 2048 constants, 32768 text bytes, scratch 16384.");
     println!("Rust: unchanged, built for speed, from trees already built; `+parse`: with the oracle's reading of the chunk. What the Rust hands back is built and dropped within the time.");
+    println!("`+parse 8n+1`, `+parse weavelist`: and then its result is put into these buffers, with zeros behind it.");
     println!();
-    println!("| nodes | shape | constants | words | bytes | ours 8n+1 | ours weavelist | Rust | Rust +parse | ours 8n+1 / Rust | ours 8n+1 / Rust +parse | ours weavelist / Rust |");
-    println!("|---|---|---|---|---|---|---|---|---|---|---|---|");
+    println!("| nodes | shape | constants | words | bytes | ours 8n+1 | ours weavelist | Rust | Rust +parse | Rust +parse 8n+1 | Rust +parse weavelist | ours 8n+1 / Rust | / +parse | / +parse 8n+1 | ours weavelist / Rust | / +parse | / +parse weavelist |");
+    println!("|---|---|---|---|---|---|---|---|---|---|---|---|---|---|---|---|---|");
     for n in [10usize, 1000, 10_000] {
         for is_deep in [false, true] {
             for constants in [4usize, 255] {
@@ -85,31 +118,40 @@ pub fn run(only: Option<&str>) -> i32 {
                 if only.is_some_and(|o| o != format!("{n}-{shape}-{constants}")) { continue; }
                 let bytes = chunk_of(n, if is_deep { 390 } else { 100 }, constants, is_deep);
                 let tree = chunk::read(&bytes).expect("the form");
-                let rust = codegen::drive::drive(&tree.locals, tree.varargs, &tree.formulas).expect("accepted by the Rust");
-                let k = rust.consts.len();
-                let mut small = fitting(n, k, rust.pool.len());
+                let result = rust(&bytes);
+                let k = result.consts.len();
+                let mut small = fitting(n, k, result.pool.len());
                 assert_eq!(small.lower(&bytes), 0, "accepted by ours");
-                assert_eq!(small.counts, [rust.code.len() as u64, k as u64, rust.pool.len() as u64, u64::from(rust.frame)]);
+                same_but_scratch(&small, &result);
                 let mut weavelist = Buffers::new(&Sizes::WEAVELIST);
                 let refused = weavelist.lower(&bytes);
+                if refused == 0 { same_but_scratch(&weavelist, &result); }
                 let calls = (40_000 / n).max(1);
-                let (mut a, mut b, mut c, mut d) = (Vec::new(), Vec::new(), Vec::new(), Vec::new());
+                let mut times: [Vec<f64>; 6] = Default::default();
                 for round in 0..ROUNDS {
                     // forwards and backwards, each time from another column on, so that none always follows the same one
-                    for turn in 0..4 {
-                        match (round + if round % 2 == 0 { turn } else { 4 - turn }) % 4 {
-                            0 => a.push(time(calls, || { black_box(small.lower(black_box(&bytes))); })),
-                            1 => c.push(time(calls, || { let _ = black_box(codegen::drive::drive(&tree.locals, tree.varargs, black_box(&tree.formulas))); })),
-                            2 => b.push(time(calls, || { black_box(weavelist.lower(black_box(&bytes))); })),
-                            _ => d.push(time(calls, || { let t = chunk::read(black_box(&bytes)).unwrap(); let _ = black_box(codegen::drive::drive(&t.locals, t.varargs, &t.formulas)); })),
-                        }
+                    for turn in 0..6 {
+                        let column = (round + if round % 2 == 0 { turn } else { 6 - turn }) % 6;
+                        times[column].push(match column {
+                            0 => time(calls, || { black_box(small.lower(black_box(&bytes))); }),
+                            1 => time(calls, || { let _ = black_box(codegen::drive::drive(&tree.locals, tree.varargs, black_box(&tree.formulas))); }),
+                            2 => time(calls, || { black_box(weavelist.lower(black_box(&bytes))); }),
+                            3 => time(calls, || { black_box(rust(black_box(&bytes))); }),
+                            4 => time(calls, || { put_all(&mut small, &rust(black_box(&bytes))); black_box(&small); }),
+                            _ if refused == 0 => time(calls, || { put_all(&mut weavelist, &rust(black_box(&bytes))); black_box(&weavelist); }),
+                            _ => 0.0,
+                        });
                     }
                 }
                 rows += 1;
-                let per = |v: Vec<f64>| median(v) / n as f64;
-                let (a, b, c, d) = (per(a), per(b), per(c), per(d));
-                let (b, to_rust) = if refused == 0 { (format!("{b:.1}"), format!("{:.2}", b / c)) } else { (format!("refused {refused}"), "-".to_string()) };
-                println!("| {n} | {shape} | {k} | {} | {} | {a:.1} | {b} | {c:.1} | {d:.1} | {:.2} | {:.2} | {to_rust} |", rust.code.len(), bytes.len(), a / c, a / d);
+                let [small, trees, large, parse, parse_small, parse_large] = times.map(|v| median(v) / n as f64);
+                let lent = |t: String| if refused == 0 { t } else { "-".to_string() };
+                let ours_large = if refused == 0 { format!("{large:.1}") } else { format!("refused {refused}") };
+                println!(
+                    "| {n} | {shape} | {k} | {} | {} | {small:.1} | {ours_large} | {trees:.1} | {parse:.1} | {parse_small:.1} | {} | {:.2} | {:.2} | {:.2} | {} | {} | {} |",
+                    result.code.len(), bytes.len(), lent(format!("{parse_large:.1}")), small / trees, small / parse, small / parse_small,
+                    lent(format!("{:.2}", large / trees)), lent(format!("{:.2}", large / parse)), lent(format!("{:.2}", large / parse_large)),
+                );
             }
         }
     }
@@ -149,13 +191,13 @@ pub fn clearing() {
 }
 
 /// One of the two alone, so many times: for a profiler.
-pub fn profile(n: usize, is_deep: bool, constants: usize, rust: bool, times: usize) {
+pub fn profile(n: usize, is_deep: bool, constants: usize, is_rust: bool, times: usize) {
     let bytes = chunk_of(n, if is_deep { 390 } else { 100 }, constants, is_deep);
     let tree = chunk::read(&bytes).expect("the form");
-    let needed = codegen::drive::drive(&tree.locals, tree.varargs, &tree.formulas).expect("accepted by the Rust");
+    let needed = rust(&bytes);
     let mut b = fitting(n, needed.consts.len(), needed.pool.len());
     for _ in 0..times {
-        if rust {
+        if is_rust {
             assert!(black_box(codegen::drive::drive(&tree.locals, tree.varargs, black_box(&tree.formulas))).is_ok());
         } else {
             assert_eq!(black_box(b.lower(black_box(&bytes))), 0);

@@ -38,9 +38,13 @@ impl Buffers {
         Buffers { code: vec![0; z.code], lines: vec![0; z.lines], kinds: vec![0; z.kinds], values: vec![0; z.values], pool: vec![0; z.pool], scratch: vec![0; z.scratch], counts: vec![0; z.counts] }
     }
 
+    pub fn sizes(&self) -> Sizes {
+        Sizes { code: self.code.len(), lines: self.lines.len(), kinds: self.kinds.len(), values: self.values.len(), pool: self.pool.len(), scratch: self.scratch.len(), counts: self.counts.len() }
+    }
+
     /// 0, or the number of the refusal; all of each buffer is lent.
     pub fn lower(&mut self, chunk: &[u8]) -> u32 {
-        let z = Sizes { code: self.code.len(), lines: self.lines.len(), kinds: self.kinds.len(), values: self.values.len(), pool: self.pool.len(), scratch: self.scratch.len(), counts: self.counts.len() };
+        let z = self.sizes();
         self.lower_part(chunk, &z)
     }
 

@@ -8,3 +8,4 @@ pub mod Expressions
 pub mod Texts
 pub mod Bounded
 pub mod Suffices
+pub mod Examples

@@ -45,11 +45,11 @@ use Rattle.model.specs.Claims.{program, Runs-as-read, Bytes}
 use Rattle.faithful.specs.Faithful.{faithful}
 
 -- whether each entry is a byte
-unfoldable all-bytes : List ℕ → Bool
+unfoldable pub all-bytes : List ℕ → Bool
 all-bytes [] = true
 all-bytes (b ∷ s) = elim (ltb b 256) [ true ↦ all-bytes s | false ↦ false ]
 
-each-byte : (s : List ℕ) → all-bytes s ≡ true → Bytes s
+pub each-byte : (s : List ℕ) → all-bytes s ≡ true → Bytes s
 unfolding all-bytes
 each-byte [] h i = omega arith
 each-byte (b ∷ s) h i = go (ltb b 256) refl h (each-byte s) i

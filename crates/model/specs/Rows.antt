@@ -35,7 +35,7 @@ use Rattle.model.specs.declared.Lowered.{Lowered}
 use Rattle.model.specs.declared.Lowered.the-variants as answer
 
 -- the buffers that `weavelist` lends
-abbrev weavelist : Sizes
+abbrev pub weavelist : Sizes
 weavelist = record { code = 8192; lines = 8192; kinds = 2048; values = 2048; pool = 32768; scratch = 16384 }
 
 -- what is in use of code, lines, kinds and values, the bytes of text, and the frame; or the refusal's number

@@ -425,7 +425,7 @@ fn as_operand(label: &[u8], e: ExprContext, count: usize) {
 }
 
 // All entries are nil, and there is room for 300: a number more is refused with 11. The constant 255 is an operand; the constant 256 goes to register 4, LoadK 4 256.
-// True behind 256 entries goes there without being listed, LoadBool 4 1 0; nil behind 255 is found as the constant 0.
+// True behind 256 entries goes there without being listed, LoadBool 4 1 0. Nil behind 255 is found as the constant 0; behind 256 it goes to register 4 although it is listed, and at word 0 no word is needed for that.
 fn as_operands() {
     as_operand(b"1.5 behind 255 entries", number(ONE_AND_HALF), 255);
     as_operand(b"1.5 behind 256 entries", number(ONE_AND_HALF), 256);
@@ -433,6 +433,7 @@ fn as_operands() {
     as_operand(b"true behind 255 entries", plain(ExprKind::True), 255);
     as_operand(b"true behind 256 entries", plain(ExprKind::True), 256);
     as_operand(b"nil behind 255 entries", plain(ExprKind::Nil), 255);
+    as_operand(b"nil behind 256 entries", plain(ExprKind::Nil), 256);
 }
 
 // ---- operators
