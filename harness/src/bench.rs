@@ -1,5 +1,5 @@
 //! Time per node: ours (the whole call, clearing included) against the unchanged Rust, in one run.
-use crate::chunk;
+use crate::chunk::{self, Chunk};
 use crate::chunks::{Rng, Writer};
 use crate::ours::{Buffers, Sizes};
 use rilua::Out;
@@ -77,14 +77,13 @@ fn put<T: Copy + Default>(buffer: &mut [T], list: impl ExactSizeIterator<Item = 
     behind.fill(T::default());
 }
 
-/// What is left to do with the Rust's result until the lent buffers hold what ours leaves there; but no places in the scratch, which the Rust doesn't know: zeros there.
+/// What is left to do with the Rust's result until the lent buffers hold what ours leaves there; the scratch is left alone, since the Rust has no use for one.
 fn put_all(b: &mut Buffers, o: &Out) {
     put(&mut b.code, o.code.iter().copied());
     put(&mut b.lines, o.lines.iter().copied());
     put(&mut b.kinds, o.consts.iter().map(|c| c.0));
     put(&mut b.values, o.consts.iter().map(|c| c.1));
     put(&mut b.pool, o.pool.iter().copied());
-    put(&mut b.scratch, [].into_iter());
     put(&mut b.counts, [o.code.len() as u64, o.consts.len() as u64, o.pool.len() as u64, u64::from(o.frame)].into_iter());
 }
 
@@ -95,21 +94,21 @@ fn same_but_scratch(ours: &Buffers, o: &Out) {
     assert!(b.code == ours.code && b.lines == ours.lines && b.kinds == ours.kinds && b.values == ours.values && b.pool == ours.pool && b.counts == ours.counts, "the same result");
 }
 
-/// The Rust from the chunk's bytes.
-fn rust(bytes: &[u8]) -> Out {
-    let t = chunk::read(bytes).expect("the form");
-    codegen::drive::drive(&t.locals, t.varargs, &t.formulas).expect("accepted by the Rust")
-}
+/// The Rust from trees.
+fn rust(c: &Chunk) -> Out { codegen::drive::drive(&c.locals, c.varargs, &c.formulas).expect("accepted by the Rust") }
+
+/// The oracle's reading of the bytes into trees.
+fn read(bytes: &[u8]) -> Chunk { chunk::read(bytes).expect("the form") }
 
 pub fn run(only: Option<&str>) -> i32 {
     let mut rows = 0;
     println!("Nanoseconds per node, median of {ROUNDS} rounds in which the columns take turns.");
     println!("ours: the whole call, from bytes, clearing included; `8n+1`: buffers of 8n + 1 words and lines, constants and text as needed, scratch n;");
     println!("`weavelist`: 8192 words and lines, 2048 constants, 32768 text bytes, scratch 16384.");
-    println!("Rust: unchanged, built for speed, from trees already built; `+parse`: with the oracle's reading of the chunk. What the Rust hands back is built and dropped within the time.");
-    println!("`+parse 8n+1`, `+parse weavelist`: and then its result is put into these buffers, with zeros behind it.");
+    println!("Rust: unchanged, built for speed. `trees`: from trees already built; `bytes`: with the oracle's reading of the chunk. What the Rust hands back is built and dropped within the time.");
+    println!("`into 8n+1`, `into weavelist`: as `bytes`, and then its result is put into these buffers, with zeros behind it, all but the scratch.");
     println!();
-    println!("| nodes | shape | constants | words | bytes | ours 8n+1 | ours weavelist | Rust | Rust +parse | Rust +parse 8n+1 | Rust +parse weavelist | ours 8n+1 / Rust | / +parse | / +parse 8n+1 | ours weavelist / Rust | / +parse | / +parse weavelist |");
+    println!("| nodes | shape | constants | words | bytes | ours 8n+1 | ours weavelist | Rust trees | Rust bytes | Rust into 8n+1 | Rust into weavelist | ours 8n+1 / trees | / bytes | / into | ours weavelist / trees | / bytes | / into |");
     println!("|---|---|---|---|---|---|---|---|---|---|---|---|---|---|---|---|---|");
     for n in [10usize, 1000, 10_000] {
         for is_deep in [false, true] {
@@ -117,8 +116,8 @@ pub fn run(only: Option<&str>) -> i32 {
                 let shape = if is_deep { "deep" } else { "flat" };
                 if only.is_some_and(|o| o != format!("{n}-{shape}-{constants}")) { continue; }
                 let bytes = chunk_of(n, if is_deep { 390 } else { 100 }, constants, is_deep);
-                let tree = chunk::read(&bytes).expect("the form");
-                let result = rust(&bytes);
+                let tree = read(&bytes);
+                let result = rust(&tree);
                 let k = result.consts.len();
                 let mut small = fitting(n, k, result.pool.len());
                 assert_eq!(small.lower(&bytes), 0, "accepted by ours");
@@ -134,23 +133,22 @@ pub fn run(only: Option<&str>) -> i32 {
                         let column = (round + if round % 2 == 0 { turn } else { 6 - turn }) % 6;
                         times[column].push(match column {
                             0 => time(calls, || { black_box(small.lower(black_box(&bytes))); }),
-                            1 => time(calls, || { let _ = black_box(codegen::drive::drive(&tree.locals, tree.varargs, black_box(&tree.formulas))); }),
+                            1 => time(calls, || { black_box(rust(black_box(&tree))); }),
                             2 => time(calls, || { black_box(weavelist.lower(black_box(&bytes))); }),
-                            3 => time(calls, || { black_box(rust(black_box(&bytes))); }),
-                            4 => time(calls, || { put_all(&mut small, &rust(black_box(&bytes))); black_box(&small); }),
-                            _ if refused == 0 => time(calls, || { put_all(&mut weavelist, &rust(black_box(&bytes))); black_box(&weavelist); }),
+                            3 => time(calls, || { black_box(rust(&read(black_box(&bytes)))); }),
+                            4 => time(calls, || { put_all(&mut small, &rust(&read(black_box(&bytes)))); black_box(&small); }),
+                            _ if refused == 0 => time(calls, || { put_all(&mut weavelist, &rust(&read(black_box(&bytes)))); black_box(&weavelist); }),
                             _ => 0.0,
                         });
                     }
                 }
                 rows += 1;
-                let [small, trees, large, parse, parse_small, parse_large] = times.map(|v| median(v) / n as f64);
-                let lent = |t: String| if refused == 0 { t } else { "-".to_string() };
+                let [small, trees, large, read, into_small, into_large] = times.map(|v| median(v) / n as f64);
+                let lent = |t: f64, digits: usize| if refused == 0 { format!("{t:.digits$}") } else { "-".to_string() };
                 let ours_large = if refused == 0 { format!("{large:.1}") } else { format!("refused {refused}") };
                 println!(
-                    "| {n} | {shape} | {k} | {} | {} | {small:.1} | {ours_large} | {trees:.1} | {parse:.1} | {parse_small:.1} | {} | {:.2} | {:.2} | {:.2} | {} | {} | {} |",
-                    result.code.len(), bytes.len(), lent(format!("{parse_large:.1}")), small / trees, small / parse, small / parse_small,
-                    lent(format!("{:.2}", large / trees)), lent(format!("{:.2}", large / parse)), lent(format!("{:.2}", large / parse_large)),
+                    "| {n} | {shape} | {k} | {} | {} | {small:.1} | {ours_large} | {trees:.1} | {read:.1} | {into_small:.1} | {} | {:.2} | {:.2} | {:.2} | {} | {} | {} |",
+                    result.code.len(), bytes.len(), lent(into_large, 1), small / trees, small / read, small / into_small, lent(large / trees, 2), lent(large / read, 2), lent(large / into_large, 2),
                 );
             }
         }
@@ -193,12 +191,12 @@ pub fn clearing() {
 /// One of the two alone, so many times: for a profiler.
 pub fn profile(n: usize, is_deep: bool, constants: usize, is_rust: bool, times: usize) {
     let bytes = chunk_of(n, if is_deep { 390 } else { 100 }, constants, is_deep);
-    let tree = chunk::read(&bytes).expect("the form");
-    let needed = rust(&bytes);
+    let tree = read(&bytes);
+    let needed = rust(&tree);
     let mut b = fitting(n, needed.consts.len(), needed.pool.len());
     for _ in 0..times {
         if is_rust {
-            assert!(black_box(codegen::drive::drive(&tree.locals, tree.varargs, black_box(&tree.formulas))).is_ok());
+            black_box(rust(black_box(&tree)));
         } else {
             assert_eq!(black_box(b.lower(black_box(&bytes))), 0);
         }

@@ -43,6 +43,10 @@ fn run() -> i32 {
 
 fn main() {
     compare::quiet_in_rust();
+    if std::env::args().nth(1).is_some_and(|a| a == "bench") {
+        // on the first thread, where allocations are the fastest
+        std::process::exit(run());
+    }
     let h = std::thread::Builder::new().stack_size(256 << 20).spawn(run).unwrap();
     std::process::exit(h.join().unwrap_or(101));
 }
