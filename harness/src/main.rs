@@ -43,7 +43,7 @@ fn run() -> i32 {
 
 fn main() {
     compare::quiet_in_rust();
-    if std::env::args().nth(1).is_some_and(|a| a == "bench") {
+    if std::env::args().nth(1).is_some_and(|a| a == "bench" || a == "profile") {
         // on the first thread, where allocations are the fastest
         std::process::exit(run());
     }

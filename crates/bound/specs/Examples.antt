@@ -47,8 +47,9 @@ for-p1 = record { code = 81; lines = 81; kinds = 10; values = 10; pool = 20; scr
 p1-lends : Lends for-p1 (length p1)
 p1-lends = record { short = omega arith; code = omega arith; lines = omega arith; kinds = omega arith; values = omega arith; pool = omega arith; scratch = omega arith }
 
-p1-refused : (x : Refusal) → lowered for-p1 p1 .answer ≡ answer.Refused x → x ≡ refusal.Registers
-p1-refused = suffices for-p1 p1 p1-bytes (p1-counted .tree) (p1-counted .form) (by-length for-p1 p1 (p1-counted .tree) (p1-counted .form) p1-lends)
+-- so it is lowered, or refused with 10
+p1-only-registers : (x : Refusal) → lowered for-p1 p1 .answer ≡ answer.Refused x → x ≡ refusal.Registers
+p1-only-registers = suffices for-p1 p1 p1-bytes (p1-counted .tree) (p1-counted .form) (by-length for-p1 p1 (p1-counted .tree) (p1-counted .form) p1-lends)
 
 -- P4: 251 nils
 abbrev p4 : List ℕ
@@ -77,5 +78,5 @@ p4-suffices = record {
   scratch = omega (arith, p4-counted .count);
 }
 
-p4-refused : (x : Refusal) → lowered weavelist p4 .answer ≡ answer.Refused x → x ≡ refusal.Registers
-p4-refused = suffices weavelist p4 p4-bytes (p4-counted .tree) (p4-counted .form) p4-suffices
+p4-only-registers : (x : Refusal) → lowered weavelist p4 .answer ≡ answer.Refused x → x ≡ refusal.Registers
+p4-only-registers = suffices weavelist p4 p4-bytes (p4-counted .tree) (p4-counted .form) p4-suffices
