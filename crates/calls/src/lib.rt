@@ -1,10 +1,10 @@
 // Calls, indexing, names and leaves: the part of rilua's codegen.rs that lowers a node once its sub-expressions are lowered, over the lent buffers.
 // A state and a descriptor go in by value and come back in the answer. Nothing is assumed of either.
-ghost use mathlib.Core.List.{List};
 ghost use mathlib.Core.Path.{_≡_};
-ghost use Prim.Native.Nat.{ℕ, _-_};
+ghost use Prim.Native.Nat.{_-_};
 ghost use Rattle.chunk.specs.declared.header.Header.{Header};
-ghost use Rattle.model.specs.Steps.{Buffers, bufs, andThen, steppedIs, givenIs, describedIs};
+ghost use Rattle.model.specs.Steps.{Buffers, andThen, givenIs, describedIs};
+ghost use Rattle.model.specs.Contracts.{Describes, Describes-constants, Describes-words, Gives-constants, Steps-code, bytes};
 ghost use Rattle.model.specs.Expressions.{set-multret, above as aboveOf, emit-call, closed-call, is-open, last-argument, set-indexed, code-self, string-constant, resolve-var, leaf-expr, callee as calleeOf};
 ghost use Rattle.calls.specs.Parts.{fresh-of, self-of, operand-of, key-of};
 use ast::Leaf;
@@ -46,7 +46,7 @@ use variables::search_local;
 
 // The call or vararg gives all its values; an error is refused (difference 4).
 pub fn set_multret(code: &mut [u32], st: State, e: ExprContext) -> Stepped
-    ensures { λ r. ⌜ ((ls ks vs p : List ℕ) → set-multret e st (bufs (now (code .entry)) ls ks vs p) ≡ steppedIs r (bufs (now (code .exit)) ls ks vs p)) ⌝ }
+    ensures { λ r. ⌜ Steps-code (set-multret e) st r code ⌝ }
 {
     let pc = e.info;
     if is_kind(e, ExprKind::Call) {
@@ -81,7 +81,7 @@ pub fn emit_call(
     b: usize,
     line: u32,
 ) -> Described
-    ensures { λ r. ⌜ ((ks vs p : List ℕ) → emit-call func b line st (bufs (now (code .entry)) (now (lines .entry)) ks vs p) ≡ describedIs r (bufs (now (code .exit)) (now (lines .exit)) ks vs p)) ⌝ }
+    ensures { λ r. ⌜ Describes-words (emit-call func b line) st r code lines ⌝ }
 {
     let base = func.info;
     let i = Instruction::abc(OpCode::Call, (base % A_SIZE) as u32, (b % B_SIZE) as u32, 2);
@@ -114,7 +114,7 @@ pub fn closed_call(
     func: ExprContext,
     line: u32,
 ) -> Described
-    ensures { λ r. ⌜ ((ks vs p : List ℕ) → closed-call func line st (bufs (now (code .entry)) (now (lines .entry)) ks vs p) ≡ describedIs r (bufs (now (code .exit)) (now (lines .exit)) ks vs p)) ⌝ }
+    ensures { λ r. ⌜ Describes-words (closed-call func line) st r code lines ⌝ }
 {
     let n = nparams(st.free, func.info);
     emit_call(code, lines, st, func, n + 1, line)
@@ -142,7 +142,7 @@ pub fn last_argument(
     line: u32,
     e: ExprContext,
 ) -> Described
-    ensures { λ r. ⌜ last-argument func line e st (bufs (now (code .entry)) (now (lines .entry)) (now (kinds .entry)) (now (values .entry)) (now (pool .entry))) ≡ describedIs r (bufs (now (code .exit)) (now (lines .exit)) (now (kinds .exit)) (now (values .exit)) (now (pool .exit))) ⌝ }
+    ensures { λ r. ⌜ Describes (last-argument func line e) st r code lines kinds values pool ⌝ }
 {
     if is_open(e) {
         let answer = set_multret(code, st, e);
@@ -171,7 +171,7 @@ pub fn set_indexed(
     t: ExprContext,
     key: ExprContext,
 ) -> Described
-    ensures { λ r. ⌜ set-indexed t key st (bufs (now (code .entry)) (now (lines .entry)) (now (kinds .entry)) (now (values .entry)) (now (pool .entry))) ≡ describedIs r (bufs (now (code .exit)) (now (lines .exit)) (now (kinds .exit)) (now (values .exit)) (now (pool .exit))) ⌝ }
+    ensures { λ r. ⌜ Describes (set-indexed t key) st r code lines kinds values pool ⌝ }
 {
     let answer = exp2rk(code, lines, kinds, values, pool, st, key);
     match answer {
@@ -200,7 +200,7 @@ fn emit_self(
     reg: usize,
     k: ExprContext,
 ) -> Described
-    ensures { λ r. ⌜ ((ks vs p : List ℕ) → self-of e reg k st (bufs (now (code .entry)) (now (lines .entry)) ks vs p) ≡ describedIs r (bufs (now (code .exit)) (now (lines .exit)) ks vs p)) ⌝ }
+    ensures { λ r. ⌜ Describes-words (self-of e reg k) st r code lines ⌝ }
 {
     let answer = emit_abc(code, lines, st, OpCode::OpSelf, reg, e.info, rk(k));
     match answer {
@@ -224,7 +224,7 @@ fn self_operand(
     reg: usize,
     key: ExprContext,
 ) -> Described
-    ensures { λ r. ⌜ operand-of e reg key st (bufs (now (code .entry)) (now (lines .entry)) (now (kinds .entry)) (now (values .entry)) (now (pool .entry))) ≡ describedIs r (bufs (now (code .exit)) (now (lines .exit)) (now (kinds .exit)) (now (values .exit)) (now (pool .exit))) ⌝ }
+    ensures { λ r. ⌜ Describes (operand-of e reg key) st r code lines kinds values pool ⌝ }
 {
     let answer = exp2rk(code, lines, kinds, values, pool, st, key);
     match answer {
@@ -244,7 +244,7 @@ fn self_key(
     e: ExprContext,
     key: ExprContext,
 ) -> Described
-    ensures { λ r. ⌜ key-of e key st (bufs (now (code .entry)) (now (lines .entry)) (now (kinds .entry)) (now (values .entry)) (now (pool .entry))) ≡ describedIs r (bufs (now (code .exit)) (now (lines .exit)) (now (kinds .exit)) (now (values .exit)) (now (pool .exit))) ⌝ }
+    ensures { λ r. ⌜ Describes (key-of e key) st r code lines kinds values pool ⌝ }
 {
     let freed = free_expr(st, e);
     let answer = reserve_regs(freed, 2);
@@ -265,7 +265,7 @@ pub fn code_self(
     e: ExprContext,
     key: ExprContext,
 ) -> Described
-    ensures { λ r. ⌜ code-self e key st (bufs (now (code .entry)) (now (lines .entry)) (now (kinds .entry)) (now (values .entry)) (now (pool .entry))) ≡ describedIs r (bufs (now (code .exit)) (now (lines .exit)) (now (kinds .exit)) (now (values .exit)) (now (pool .exit))) ⌝ }
+    ensures { λ r. ⌜ Describes (code-self e key) st r code lines kinds values pool ⌝ }
 {
     let answer = exp2anyreg(code, lines, kinds, values, pool, st, e);
     match answer {
@@ -285,7 +285,7 @@ pub fn string_constant(
     st: State,
     t: Text,
 ) -> Given
-    ensures { λ r. ⌜ ((h : Header) (cs ls : List ℕ) → string-constant (now (chunk .entry)) h t st (bufs cs ls (now (kinds .entry)) (now (values .entry)) (now (pool .entry))) ≡ givenIs r (bufs cs ls (now (kinds .exit)) (now (values .exit)) (now (pool .exit)))) ⌝ }
+    ensures { λ r. ⌜ ((h : Header) → Gives-constants (string-constant (bytes chunk) h t) st r kinds values pool) ⌝ }
 {
     let v = Val::Str {
         start: t.start,
@@ -314,7 +314,7 @@ pub fn resolve_var(
     st: State,
     t: Text,
 ) -> Described
-    ensures { λ r. ⌜ ((cs ls : List ℕ) → resolve-var (now (chunk .entry)) h t st (bufs cs ls (now (kinds .entry)) (now (values .entry)) (now (pool .entry))) ≡ describedIs r (bufs cs ls (now (kinds .exit)) (now (values .exit)) (now (pool .exit)))) ⌝ }
+    ensures { λ r. ⌜ Describes-constants (resolve-var (bytes chunk) h t) st r kinds values pool ⌝ }
 {
     let found = search_local(chunk, h, t);
     match found {
@@ -338,7 +338,7 @@ pub fn leaf_expr(
     st: State,
     leaf: Leaf,
 ) -> Described
-    ensures { λ r. ⌜ leaf-expr (now (chunk .entry)) h leaf st (bufs (now (code .entry)) (now (lines .entry)) (now (kinds .entry)) (now (values .entry)) (now (pool .entry))) ≡ describedIs r (bufs (now (code .exit)) (now (lines .exit)) (now (kinds .exit)) (now (values .exit)) (now (pool .exit))) ⌝ }
+    ensures { λ r. ⌜ Describes (leaf-expr (bytes chunk) h leaf) st r code lines kinds values pool ⌝ }
 {
     match leaf {
         Leaf::Nil => Described::Done(st, ExprContext::new(ExprKind::Nil, 0)),
@@ -371,7 +371,7 @@ pub fn callee(
     m: Many,
     e: ExprContext,
 ) -> Described
-    ensures { λ r. ⌜ ((h : Header) → calleeOf (now (chunk .entry)) h m e st (bufs (now (code .entry)) (now (lines .entry)) (now (kinds .entry)) (now (values .entry)) (now (pool .entry))) ≡ describedIs r (bufs (now (code .exit)) (now (lines .exit)) (now (kinds .exit)) (now (values .exit)) (now (pool .exit)))) ⌝ }
+    ensures { λ r. ⌜ ((h : Header) → Describes (calleeOf (bytes chunk) h m e) st r code lines kinds values pool) ⌝ }
 {
     match m {
         Many::Call => exp2nextreg(code, lines, kinds, values, pool, st, e),

@@ -1,12 +1,12 @@
 // Conditional jumps, and `not`: goiftrue, goiffalse and what they call (rilua's codegen.rs), over the lent buffers.
 // A state and a descriptor go in by value and come back in the answer. Nothing is assumed of either.
 ghost use mathlib.Core.Bool.{_&&_};
-ghost use mathlib.Core.List.{List};
 ghost use mathlib.Core.Path.{_≡_};
-ghost use Prim.Native.Nat.{ℕ, _-_};
+ghost use Prim.Native.Nat.{_-_};
 ghost use Rattle.model.specs.declared.ExprKind.the-variants.{Relocable};
 ghost use Rattle.model.specs.declared.State.{State};
-ghost use Rattle.model.specs.Steps.{done, givenIs, describedIs, bufs};
+ghost use Rattle.model.specs.Steps.{done};
+ghost use Rattle.model.specs.Contracts.{Answers-code, Answers-words, Describes, Describes-words, Gives, Gives-words};
 ghost use Rattle.model.specs.Descriptor.{isKind};
 ghost use Rattle.model.specs.Jumps.{word, isOp};
 ghost use Rattle.model.specs.Conditions.{bit as bitOf, pop as popOf, invertjump as invertjumpOf, jumponcond as jumponcondOf, jump-if-false, jump-if-true, goiftrue as goiftrueOf, goiffalse as goiffalseOf, emit-not, negate as negateOf, code-not};
@@ -61,7 +61,7 @@ pub fn less_one(n: usize) -> usize
 
 // The last word and its line are taken back.
 pub fn pop(code: &mut [u32], lines: &mut [u32], st: State) -> State
-    ensures { λ r. ⌜ ((ks vs p : List ℕ) → popOf st (bufs (now (code .entry)) (now (lines .entry)) ks vs p) ≡ done tt r (bufs (now (code .exit)) (now (lines .exit)) ks vs p)) ⌝ }
+    ensures { λ r. ⌜ Answers-words popOf st (done tt r) code lines ⌝ }
 {
     let last = less_one(st.pc);
     put_word(code, last, 0);
@@ -71,7 +71,7 @@ pub fn pop(code: &mut [u32], lines: &mut [u32], st: State) -> State
 
 // The comparison before the jump tests for the other answer.
 pub fn invertjump(code: &mut [u32], e: ExprContext)
-    ensures { λ _. ⌜ ((s : State) (ls ks vs p : List ℕ) → invertjumpOf e s (bufs (now (code .entry)) ls ks vs p) ≡ done tt s (bufs (now (code .exit)) ls ks vs p)) ⌝ }
+    ensures { λ _. ⌜ ((s : State) → Answers-code (invertjumpOf e) s (done tt s) code) ⌝ }
 {
     let at = get_jump_control(code, e.info);
     let i = Instruction {
@@ -103,7 +103,7 @@ pub fn emit_relocable(
     c: usize,
     e: ExprContext,
 ) -> Described
-    ensures { λ r. ⌜ ((ks vs p : List ℕ) → relocable op b c e st (bufs (now (code .entry)) (now (lines .entry)) ks vs p) ≡ describedIs r (bufs (now (code .exit)) (now (lines .exit)) ks vs p)) ⌝ }
+    ensures { λ r. ⌜ Describes-words (relocable op b c e) st r code lines ⌝ }
 {
     let answer = emit_abc(code, lines, st, op, 0, b, c);
     match answer {
@@ -120,7 +120,7 @@ pub fn emit_unary(
     op: OpCode,
     e: ExprContext,
 ) -> Described
-    ensures { λ r. ⌜ ((ks vs p : List ℕ) → unary op e st (bufs (now (code .entry)) (now (lines .entry)) ks vs p) ≡ describedIs r (bufs (now (code .exit)) (now (lines .exit)) ks vs p)) ⌝ }
+    ensures { λ r. ⌜ Describes-words (unary op e) st r code lines ⌝ }
 {
     let s = free_expr(st, e);
     emit_relocable(code, lines, s, op, e.info, 0, e)
@@ -128,7 +128,7 @@ pub fn emit_unary(
 
 // A jump where none is pending: a list of its own.
 fn lone_jump(code: &mut [u32], lines: &mut [u32], st: State) -> Given
-    ensures { λ r. ⌜ ((ks vs p : List ℕ) → lone-jump st (bufs (now (code .entry)) (now (lines .entry)) ks vs p) ≡ givenIs r (bufs (now (code .exit)) (now (lines .exit)) ks vs p)) ⌝ }
+    ensures { λ r. ⌜ Gives-words lone-jump st r code lines ⌝ }
 {
     let i = Instruction::a_sbx(OpCode::Jmp, 0, -1);
     let answer = emit(code, lines, st, i.raw);
@@ -148,7 +148,7 @@ pub fn emit_test(
     b: usize,
     c: usize,
 ) -> Given
-    ensures { λ r. ⌜ ((ks vs p : List ℕ) → tested op a b c st (bufs (now (code .entry)) (now (lines .entry)) ks vs p) ≡ givenIs r (bufs (now (code .exit)) (now (lines .exit)) ks vs p)) ⌝ }
+    ensures { λ r. ⌜ Gives-words (tested op a b c) st r code lines ⌝ }
 {
     let answer = emit_abc(code, lines, st, op, a, b, c);
     match answer {
@@ -170,7 +170,7 @@ pub fn jumponcond(
     e: ExprContext,
     cond: bool,
 ) -> Given
-    ensures { λ r. ⌜ jumponcondOf e cond st (bufs (now (code .entry)) (now (lines .entry)) (now (kinds .entry)) (now (values .entry)) (now (pool .entry))) ≡ givenIs r (bufs (now (code .exit)) (now (lines .exit)) (now (kinds .exit)) (now (values .exit)) (now (pool .exit))) ⌝ }
+    ensures { λ r. ⌜ Gives (jumponcondOf e cond) st r code lines kinds values pool ⌝ }
 {
     if is_relocable(code, e, OpCode::Not) {
         let i = Instruction {
@@ -246,7 +246,7 @@ fn jump_if_false(
     st: State,
     e: ExprContext,
 ) -> Given
-    ensures { λ r. ⌜ jump-if-false (e .kind) e st (bufs (now (code .entry)) (now (lines .entry)) (now (kinds .entry)) (now (values .entry)) (now (pool .entry))) ≡ givenIs r (bufs (now (code .exit)) (now (lines .exit)) (now (kinds .exit)) (now (values .exit)) (now (pool .exit))) ⌝ }
+    ensures { λ r. ⌜ Gives (jump-if-false (e .kind) e) st r code lines kinds values pool ⌝ }
 {
     let kind = e.kind;
     if always_true(kind) {
@@ -272,7 +272,7 @@ fn jump_if_true(
     st: State,
     e: ExprContext,
 ) -> Given
-    ensures { λ r. ⌜ jump-if-true (e .kind) e st (bufs (now (code .entry)) (now (lines .entry)) (now (kinds .entry)) (now (values .entry)) (now (pool .entry))) ≡ givenIs r (bufs (now (code .exit)) (now (lines .exit)) (now (kinds .exit)) (now (values .exit)) (now (pool .exit))) ⌝ }
+    ensures { λ r. ⌜ Gives (jump-if-true (e .kind) e) st r code lines kinds values pool ⌝ }
 {
     let kind = e.kind;
     if always_false(kind) {
@@ -297,7 +297,7 @@ pub fn goiftrue(
     st: State,
     e: ExprContext,
 ) -> Described
-    ensures { λ r. ⌜ goiftrueOf e st (bufs (now (code .entry)) (now (lines .entry)) (now (kinds .entry)) (now (values .entry)) (now (pool .entry))) ≡ describedIs r (bufs (now (code .exit)) (now (lines .exit)) (now (kinds .exit)) (now (values .exit)) (now (pool .exit))) ⌝ }
+    ensures { λ r. ⌜ Describes (goiftrueOf e) st r code lines kinds values pool ⌝ }
 {
     let first = discharge_vars(code, lines, st, e);
     match first {
@@ -326,7 +326,7 @@ pub fn goiffalse(
     st: State,
     e: ExprContext,
 ) -> Described
-    ensures { λ r. ⌜ goiffalseOf e st (bufs (now (code .entry)) (now (lines .entry)) (now (kinds .entry)) (now (values .entry)) (now (pool .entry))) ≡ describedIs r (bufs (now (code .exit)) (now (lines .exit)) (now (kinds .exit)) (now (values .exit)) (now (pool .exit))) ⌝ }
+    ensures { λ r. ⌜ Describes (goiffalseOf e) st r code lines kinds values pool ⌝ }
 {
     let first = discharge_vars(code, lines, st, e);
     match first {
@@ -356,7 +356,7 @@ fn emit_not(
     st: State,
     e: ExprContext,
 ) -> Described
-    ensures { λ r. ⌜ emit-not e st (bufs (now (code .entry)) (now (lines .entry)) (now (kinds .entry)) (now (values .entry)) (now (pool .entry))) ≡ describedIs r (bufs (now (code .exit)) (now (lines .exit)) (now (kinds .exit)) (now (values .exit)) (now (pool .exit))) ⌝ }
+    ensures { λ r. ⌜ Describes (emit-not e) st r code lines kinds values pool ⌝ }
 {
     let answer = discharge2anyreg(code, lines, kinds, values, pool, st, e);
     match answer {
@@ -396,7 +396,7 @@ fn negate(
     st: State,
     e: ExprContext,
 ) -> Described
-    ensures { λ r. ⌜ negateOf (e .kind) e st (bufs (now (code .entry)) (now (lines .entry)) (now (kinds .entry)) (now (values .entry)) (now (pool .entry))) ≡ describedIs r (bufs (now (code .exit)) (now (lines .exit)) (now (kinds .exit)) (now (values .exit)) (now (pool .exit))) ⌝ }
+    ensures { λ r. ⌜ Describes (negateOf (e .kind) e) st r code lines kinds values pool ⌝ }
 {
     let kind = e.kind;
     if always_false(kind) {
@@ -425,7 +425,7 @@ pub fn code_not(
     st: State,
     e: ExprContext,
 ) -> Described
-    ensures { λ r. ⌜ code-not e st (bufs (now (code .entry)) (now (lines .entry)) (now (kinds .entry)) (now (values .entry)) (now (pool .entry))) ≡ describedIs r (bufs (now (code .exit)) (now (lines .exit)) (now (kinds .exit)) (now (values .exit)) (now (pool .exit))) ⌝ }
+    ensures { λ r. ⌜ Describes (code-not e) st r code lines kinds values pool ⌝ }
 {
     let first = discharge_vars(code, lines, st, e);
     match first {

@@ -2,12 +2,15 @@
 use Prim.Native.Nat.{ℕ}
 use mathlib.Core.Path.{_≡_}
 use mathlib.Core.List.{List, [], _∷_}
+use lib.ListN.{length}
+use denote.Ref.{now}
 use Rattle.refusals.specs.Number.{numberOf}
 use Rattle.buffers.specs.Pad.{pad}
 use Rattle.model.specs.declared.Lowered.{Lowered}
 use Rattle.model.specs.declared.Lowered.the-variants as answer
 use Rattle.model.specs.Steps.{Buffers}
-use Rattle.model.specs.Claims.{Padded, Faithful}
+use Rattle.model.specs.Claims.{sizes, Padded, Faithful}
+use Rattle.model.specs.Contracts.{Lent, before, after}
 use Rattle.model.specs.Lowering.{Sizes, Out, lowered}
 
 -- the answer, and what each lent buffer then holds, whole
@@ -37,3 +40,8 @@ told n o = telling (numberFor (o .answer)) (o .buffers) (o .scratch) (pad n (cou
 -- all that is promised of a lowering as it is told with a buffer for n counts: the number and every buffer are those of the definition, whole; and, of these, demands 1 and 3
 abbrev pub Tells : ℕ → Sizes → List ℕ → ℕ → Buffers → List ℕ → List ℕ → Type 0
 Tells n z chunk number m scratch counts = (told n (lowered z chunk) ≡ telling number m scratch counts) × (Padded z chunk (lowered z chunk .answer) m scratch × Faithful chunk (lowered z chunk .answer) m)
+
+-- the same of the buffers that are lent
+abbrev pub Tells-lent : List ℕ → ℕ → Lent → Lent → Lent → Lent → Lent → Lent → Lent → Type 0
+Tells-lent chunk number code lines kinds values pool scratch counts =
+    Tells (length (now (counts .entry))) (sizes (before code lines kinds values pool) (length (now (scratch .entry)))) chunk number (after code lines kinds values pool) (now (scratch .exit)) (now (counts .exit))

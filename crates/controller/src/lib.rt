@@ -2,9 +2,8 @@
 ghost use mathlib.Core.Path.{_≡_};
 ghost use lib.ListN.{length, set};
 ghost use Rattle.buffers.specs.Pad.{pad};
-ghost use Rattle.model.specs.Claims.{sizes};
-ghost use Rattle.model.specs.Steps.{bufs};
-ghost use Rattle.controller.specs.Told.{numberFor, countsFor, Tells};
+ghost use Rattle.model.specs.Contracts.{Rewrites, bytes};
+ghost use Rattle.controller.specs.Told.{numberFor, countsFor, Tells-lent};
 use buffers::clear_values;
 use lowering::lower;
 use model::Lowered;
@@ -20,7 +19,7 @@ fn put(counts: &mut [u64], i: usize, count: usize)
 
 // The answer's number; the counts in their buffer.
 fn tell(answer: Lowered, counts: &mut [u64]) -> u32
-    ensures { λ r. ⌜ (numberFor answer ≡ r) × (pad (length (now (counts .entry))) (countsFor answer) ≡ now (counts .exit)) ⌝ }
+    ensures { λ r. ⌜ (numberFor answer ≡ r) × Rewrites (λ l. pad (length l) (countsFor answer)) counts ⌝ }
 {
     clear_values(counts);
     match answer {
@@ -47,7 +46,7 @@ pub extern "C" fn fuchsiarasp_lower(
     scratch: &mut [u32],
     counts: &mut [u64],
 ) -> u32
-    ensures { λ r. ⌜ Tells (length (now (counts .entry))) (sizes (bufs (now (code .entry)) (now (lines .entry)) (now (kinds .entry)) (now (values .entry)) (now (pool .entry))) (length (now (scratch .entry)))) (now (chunk .entry)) r (bufs (now (code .exit)) (now (lines .exit)) (now (kinds .exit)) (now (values .exit)) (now (pool .exit))) (now (scratch .exit)) (now (counts .exit)) ⌝ }
+    ensures { λ r. ⌜ Tells-lent (bytes chunk) r code lines kinds values pool scratch counts ⌝ }
 {
     let answer = lower(chunk, code, lines, kinds, values, pool, scratch);
     tell(answer, counts)

@@ -1,14 +1,17 @@
 -- Kinds and their numbers: a kind is known by its number. Parts of the definitions that the code has functions for. And of a register only what fits its field counts. Assumes nothing.
 use Prim.Native.Nat.{ℕ, zero, suc}
-use mathlib.Core.Bool.{true, false}
+use mathlib.Core.Bool.{Bool, true, false, _||_}
+use mathlib.Core.List.{List}
 use mathlib.Core.Path.{_≡_, refl, sym, ap, _∙_}
 use lib.Dec.{leb}
+use lib.ListN.{length}
 use borrow.Author.Tests.{eqb-true}
 use Rattle.model.specs.declared.ExprKind.{ExprKind}
 use Rattle.model.specs.declared.ExprKind.the-variants.{Nil, True, False, K, KNum, Local, Global, Indexed, Jmp, Relocable, NonReloc, Call, VarArg}
 use Rattle.model.specs.declared.ExprContext.{ExprContext}
 use Rattle.model.specs.Descriptor.{tagOf, isKind, with-kind, with-jumps, has-jumps}
 use Rattle.model.specs.Steps.{Step, _>>=_, _>>_, return, get, when}
+use Rattle.model.specs.Jumps.{need-value}
 use Rattle.model.specs.Emission.{alloc-reg, emit-jump, code-label, patch-to-here, get-label}
 use Rattle.model.specs.Discharge.{land, settle, join-jump, free-expr, exp2reg, exp2nextreg}
 
@@ -19,6 +22,10 @@ put e reg n = return (with-kind NonReloc reg e)
 -- a descriptor, whatever is given
 abbrev pub give : ExprContext → Unit {0} → Step ExprContext
 give e _ = return e
+
+-- whether some jump of either list brings no value
+abbrev pub lacks-value : ExprContext → List ℕ → Bool
+lacks-value e code = need-value (length code) code (e .t) || need-value (length code) code (e .f)
 
 -- parts of `load-both`: the jump over both loads, and from the load of true or of false on
 abbrev pub over-of : ExprContext → Step ℕ

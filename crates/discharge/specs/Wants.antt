@@ -1,11 +1,14 @@
 -- What a descriptor is wanted as, and the parts of `bring`. Assumes nothing.
 use Prim.Native.Nat.{ℕ}
 use mathlib.Core.Bool.{Bool, true, false, not}
+use mathlib.Core.Path.{_≡_}
 use Rattle.model.specs.declared.ExprKind.{ExprKind}
 use Rattle.model.specs.declared.ExprKind.the-variants as kind
 use Rattle.model.specs.declared.ExprContext.{ExprContext}
 use Rattle.model.specs.declared.State.{State}
+use Rattle.model.specs.declared.Described.{Described}
 use Rattle.model.specs.Steps.{Buffers, Result, done, refused, Step, andThen, return}
+use Rattle.model.specs.Contracts.{Lent, Answers-constants, Describes, Describes-words}
 use Rattle.model.specs.Descriptor.{with-kind, has-jumps}
 use Rattle.model.specs.Discharge.{discharge-vars, load-kind, discharge2reg, exp2reg, exp2nextreg, exp2anyreg, exp2val, exp2rk}
 use Rattle.discharge.specs.declared.Want.{Want}
@@ -116,3 +119,11 @@ abbrev pub spotIs : Want → ExprContext → State → Spot → Buffers → Resu
 spotIs w e st spot.Stay m = done e st m
 spotIs w e st (spot.At s reg) m = there-of w e reg s m
 spotIs w e st (spot.Refused k) m = refused k m
+
+-- contracts: an operand, or the rest is `reg-of`
+abbrev pub Rests : Want → ℕ → ExprContext → Step ExprContext → State → Operand → Lent → Lent → Lent → Type 0
+Rests w reg e x s r = Answers-constants x s (restIs w reg e r)
+
+-- what is wanted; where that is only a value, the constants are not touched
+abbrev pub Brings : Want → ℕ → ExprContext → State → Described → Lent → Lent → Lent → Lent → Lent → Type 0
+Brings w reg e s r code lines kinds values pool = Describes (wanted w reg e) s r code lines kinds values pool × (only-value w ≡ true → Describes-words (discharge-vars e) s r code lines)

@@ -1,22 +1,23 @@
 // Discharging: a descriptor becomes a value, a register or an RK operand. The middle part of rilua's codegen.rs, over the lent buffers.
 // A state and a descriptor go in by value and come back in the answer. Nothing is assumed of either.
-ghost use mathlib.Core.Bool.{true, false, _||_};
-ghost use mathlib.Core.List.{List, []};
+ghost use mathlib.Core.Bool.{true, false};
+ghost use mathlib.Core.List.{[]};
 ghost use mathlib.Core.Path.{_≡_};
-ghost use Prim.Native.Nat.{ℕ, _+_};
-ghost use lib.ListN.{length, set};
+ghost use Prim.Native.Nat.{ℕ};
+ghost use lib.ListN.{set};
 ghost use Rattle.instructions.specs.Word.{setAOf, setBOf, setCOf};
 ghost use Rattle.model.specs.declared.ExprKind.the-variants.{Nil, KNum, Global, Indexed, NonReloc, Call, VarArg};
 ghost use Rattle.model.specs.declared.State.{State};
 ghost use Rattle.model.specs.declared.ExprContext.{ExprContext};
-ghost use Rattle.model.specs.Steps.{Buffers, bufs, done, andThen, steppedIs, givenIs, describedIs};
+ghost use Rattle.model.specs.Steps.{Buffers, done, andThen, steppedIs, givenIs, describedIs};
+ghost use Rattle.model.specs.Contracts.{Answers-code, Describes, Describes-words, Gives-constants, Gives-words, Steps-words};
 ghost use Rattle.model.specs.Descriptor.{isKind, with-kind, with-jumps, has-jumps};
-ghost use Rattle.model.specs.Jumps.{word, need-value};
+ghost use Rattle.model.specs.Jumps.{word};
 ghost use Rattle.model.specs.Emission.{add-constant};
 ghost use Rattle.model.specs.Discharge.{discharge-kind, discharge-vars, number-constant, load-kind, discharge2reg as discharge2regOf, discharge2anyreg as discharge2anyregOf, land as landOf, load-both, settle as settleOf, join-jump, exp2reg as exp2regOf, exp2nextreg as exp2nextregOf, exp2anyreg as exp2anyregOf, exp2val as exp2valOf, small as smallOf, near as nearOf, rk-kind, exp2rk as exp2rkOf};
 ghost use Rattle.discharge.specs.Changes.{stateOf, contextOf, changes as changesOf, changed as changedOf};
-ghost use Rattle.discharge.specs.Kinds.{put, give, over-of, load-yes, load-no, placed};
-ghost use Rattle.discharge.specs.Wants.{only-value, keeps-open, is-value, is-plain, wants-operand, wanted, reg-of, landing-of, there-of, restIs, spotIs};
+ghost use Rattle.discharge.specs.Kinds.{lacks-value, put, give, over-of, load-yes, load-no, placed};
+ghost use Rattle.discharge.specs.Wants.{only-value, keeps-open, is-value, is-plain, wants-operand, wanted, reg-of, landing-of, there-of, restIs, spotIs, Rests, Brings};
 ghost use Rattle.discharge.specs.declared.Want.the-variants.{Next, Rk};
 use constants::Table;
 use constants::Val;
@@ -71,16 +72,10 @@ pub fn with_kind(e: ExprContext, kind: ExprKind, info: usize) -> ExprContext
 pub fn with_jumps(e: ExprContext, t: usize, f: usize) -> ExprContext
     ensures { λ r. ⌜ with-jumps t f e ≡ r ⌝ }
 {
-    let kind = e.kind;
-    ExprContext {
-        kind,
-        info: e.info,
-        aux: e.aux,
-        nval: e.nval,
-        bits: e.bits,
-        t,
-        f,
-    }
+    let mut d = e;
+    d.t = t;
+    d.f = f;
+    d
 }
 
 pub fn has_jumps(e: ExprContext) -> bool
@@ -125,7 +120,7 @@ pub fn set_c_at(code: &mut [u32], pc: usize, c: u32)
 
 // Of `discharge_vars`: a global.
 fn discharge_global(code: &mut [u32], lines: &mut [u32], st: State, e: ExprContext) -> Described
-    ensures { λ r. ⌜ ((ks vs p : List ℕ) → discharge-kind Global e st (bufs (now (code .entry)) (now (lines .entry)) ks vs p) ≡ describedIs r (bufs (now (code .exit)) (now (lines .exit)) ks vs p)) ⌝ }
+    ensures { λ r. ⌜ Describes-words (discharge-kind Global e) st r code lines ⌝ }
 {
     let answer = emit_abx(code, lines, st, OpCode::GetGlobal, 0, e.info);
     match answer {
@@ -136,7 +131,7 @@ fn discharge_global(code: &mut [u32], lines: &mut [u32], st: State, e: ExprConte
 
 // An indexed value: the key's register and the table's are free again.
 fn discharge_indexed(code: &mut [u32], lines: &mut [u32], st: State, e: ExprContext) -> Described
-    ensures { λ r. ⌜ ((ks vs p : List ℕ) → discharge-kind Indexed e st (bufs (now (code .entry)) (now (lines .entry)) ks vs p) ≡ describedIs r (bufs (now (code .exit)) (now (lines .exit)) ks vs p)) ⌝ }
+    ensures { λ r. ⌜ Describes-words (discharge-kind Indexed e) st r code lines ⌝ }
 {
     let s1 = free_reg(st, e.aux);
     let s2 = free_reg(s1, e.info);
@@ -149,7 +144,7 @@ fn discharge_indexed(code: &mut [u32], lines: &mut [u32], st: State, e: ExprCont
 
 // `set_one_ret` of a call.
 fn one_result(code: &mut [u32], e: ExprContext) -> ExprContext
-    ensures { λ r. ⌜ ((s : State) (ls ks vs p : List ℕ) → discharge-kind Call e s (bufs (now (code .entry)) ls ks vs p) ≡ done r s (bufs (now (code .exit)) ls ks vs p)) ⌝ }
+    ensures { λ r. ⌜ ((s : State) → Answers-code (discharge-kind Call e) s (done r s) code) ⌝ }
 {
     set_c_at(code, e.info, 2);
     let i = Instruction {
@@ -160,7 +155,7 @@ fn one_result(code: &mut [u32], e: ExprContext) -> ExprContext
 
 // And of a vararg.
 fn one_vararg(code: &mut [u32], e: ExprContext) -> ExprContext
-    ensures { λ r. ⌜ ((s : State) (ls ks vs p : List ℕ) → discharge-kind VarArg e s (bufs (now (code .entry)) ls ks vs p) ≡ done r s (bufs (now (code .exit)) ls ks vs p)) ⌝ }
+    ensures { λ r. ⌜ ((s : State) → Answers-code (discharge-kind VarArg e) s (done r s) code) ⌝ }
 {
     set_b_at(code, e.info, 2);
     with_kind(e, ExprKind::Relocable, e.info)
@@ -168,7 +163,7 @@ fn one_vararg(code: &mut [u32], e: ExprContext) -> ExprContext
 
 // A variable, an indexed value, a call or a vararg becomes a value.
 fn discharge_kind(code: &mut [u32], lines: &mut [u32], st: State, e: ExprContext) -> Described
-    ensures { λ r. ⌜ ((ks vs p : List ℕ) → discharge-vars e st (bufs (now (code .entry)) (now (lines .entry)) ks vs p) ≡ describedIs r (bufs (now (code .exit)) (now (lines .exit)) ks vs p)) ⌝ }
+    ensures { λ r. ⌜ Describes-words (discharge-vars e) st r code lines ⌝ }
 {
     if is_kind(e, ExprKind::Local) {
         return Described::Done(st, with_kind(e, ExprKind::NonReloc, e.info));
@@ -198,7 +193,7 @@ pub fn own_constant(
     st: State,
     v: Val,
 ) -> Given
-    ensures { λ r. ⌜ ((cs ls : List ℕ) → add-constant [] v st (bufs cs ls (now (kinds .entry)) (now (values .entry)) (now (pool .entry))) ≡ givenIs r (bufs cs ls (now (kinds .exit)) (now (values .exit)) (now (pool .exit)))) ⌝ }
+    ensures { λ r. ⌜ Gives-constants (add-constant [] v) st r kinds values pool ⌝ }
 {
     let none = b"";
     let table = st.table;
@@ -215,7 +210,7 @@ pub fn number_constant(
     st: State,
     e: ExprContext,
 ) -> Given
-    ensures { λ r. ⌜ ((cs ls : List ℕ) → number-constant e st (bufs cs ls (now (kinds .entry)) (now (values .entry)) (now (pool .entry))) ≡ givenIs r (bufs cs ls (now (kinds .exit)) (now (values .exit)) (now (pool .exit)))) ⌝ }
+    ensures { λ r. ⌜ Gives-constants (number-constant e) st r kinds values pool ⌝ }
 {
     let v = Val::Num {
         value: e.nval,
@@ -237,7 +232,7 @@ fn loaded(answer: Given, e: ExprContext, reg: usize) -> Described
 }
 
 fn load_nil(code: &mut [u32], lines: &mut [u32], st: State, e: ExprContext, reg: usize) -> Described
-    ensures { λ r. ⌜ ((ks vs p : List ℕ) → load-kind Nil e reg st (bufs (now (code .entry)) (now (lines .entry)) ks vs p) ≡ describedIs r (bufs (now (code .exit)) (now (lines .exit)) ks vs p)) ⌝ }
+    ensures { λ r. ⌜ Describes-words (load-kind Nil e reg) st r code lines ⌝ }
 {
     let answer = emit_nil(code, lines, st, reg);
     match answer {
@@ -254,7 +249,7 @@ fn load_moved(
     e: ExprContext,
     reg: usize,
 ) -> Described
-    ensures { λ r. ⌜ ((ks vs p : List ℕ) → load-kind NonReloc e reg st (bufs (now (code .entry)) (now (lines .entry)) ks vs p) ≡ describedIs r (bufs (now (code .exit)) (now (lines .exit)) ks vs p)) ⌝ }
+    ensures { λ r. ⌜ Describes-words (load-kind NonReloc e reg) st r code lines ⌝ }
 {
     if reg == e.info {
         return Described::Done(st, with_kind(e, ExprKind::NonReloc, reg));
@@ -271,7 +266,7 @@ fn load_other(
     e: ExprContext,
     reg: usize,
 ) -> Described
-    ensures { λ r. ⌜ (isKind KNum e ≡ false → (ks vs p : List ℕ) → load-kind (e .kind) e reg st (bufs (now (code .entry)) (now (lines .entry)) ks vs p) ≡ describedIs r (bufs (now (code .exit)) (now (lines .exit)) ks vs p)) ⌝ }
+    ensures { λ r. ⌜ (isKind KNum e ≡ false → Describes-words (load-kind (e .kind) e reg) st r code lines) ⌝ }
 {
     if is_kind(e, ExprKind::Nil) {
         return load_nil(code, lines, st, e, reg);
@@ -308,7 +303,7 @@ fn load_number(
     e: ExprContext,
     reg: usize,
 ) -> Described
-    ensures { λ r. ⌜ load-kind KNum e reg st (bufs (now (code .entry)) (now (lines .entry)) (now (kinds .entry)) (now (values .entry)) (now (pool .entry))) ≡ describedIs r (bufs (now (code .exit)) (now (lines .exit)) (now (kinds .exit)) (now (values .exit)) (now (pool .exit))) ⌝ }
+    ensures { λ r. ⌜ Describes (load-kind KNum e reg) st r code lines kinds values pool ⌝ }
 {
     let found = number_constant(kinds, values, pool, st, e);
     match found {
@@ -330,7 +325,7 @@ fn load_kind(
     e: ExprContext,
     reg: usize,
 ) -> Described
-    ensures { λ r. ⌜ load-kind (e .kind) e reg st (bufs (now (code .entry)) (now (lines .entry)) (now (kinds .entry)) (now (values .entry)) (now (pool .entry))) ≡ describedIs r (bufs (now (code .exit)) (now (lines .exit)) (now (kinds .exit)) (now (values .exit)) (now (pool .exit))) ⌝ }
+    ensures { λ r. ⌜ Describes (load-kind (e .kind) e reg) st r code lines kinds values pool ⌝ }
 {
     if is_kind(e, ExprKind::KNum) {
         return load_number(code, lines, kinds, values, pool, st, e, reg);
@@ -342,7 +337,7 @@ fn load_kind(
 
 // The jumps of both lists land: those with a value at `last`, those without at `off` or `on`.
 fn land(code: &mut [u32], e: ExprContext, reg: usize, last: usize, off: usize, on: usize)
-    ensures { λ _. ⌜ ((s : State) (ls ks vs p : List ℕ) → landOf e reg last off on s (bufs (now (code .entry)) ls ks vs p) ≡ done tt s (bufs (now (code .exit)) ls ks vs p)) ⌝ }
+    ensures { λ _. ⌜ ((s : State) → Answers-code (landOf e reg last off on) s (done tt s) code) ⌝ }
 {
     patch_list_aux(code, e.f, last, reg, off);
     patch_list_aux(code, e.t, last, reg, on);
@@ -350,7 +345,7 @@ fn land(code: &mut [u32], e: ExprContext, reg: usize, last: usize, off: usize, o
 
 // The jump over both loads, for a value that falls through.
 fn jump_over(code: &mut [u32], lines: &mut [u32], st: State, e: ExprContext) -> Given
-    ensures { λ r. ⌜ ((ks vs p : List ℕ) → over-of e st (bufs (now (code .entry)) (now (lines .entry)) ks vs p) ≡ givenIs r (bufs (now (code .exit)) (now (lines .exit)) ks vs p)) ⌝ }
+    ensures { λ r. ⌜ Gives-words (over-of e) st r code lines ⌝ }
 {
     if is_kind(e, ExprKind::Jmp) {
         return Given::Done(st, 0);
@@ -368,7 +363,7 @@ fn load_true(
     over: usize,
     off: usize,
 ) -> Stepped
-    ensures { λ r. ⌜ ((ks vs p : List ℕ) → load-yes e reg over off st (bufs (now (code .entry)) (now (lines .entry)) ks vs p) ≡ steppedIs r (bufs (now (code .exit)) (now (lines .exit)) ks vs p)) ⌝ }
+    ensures { λ r. ⌜ Steps-words (load-yes e reg over off) st r code lines ⌝ }
 {
     let answer = code_label(code, lines, st, reg, 1, 0);
     match answer {
@@ -390,7 +385,7 @@ fn load_false(
     reg: usize,
     over: usize,
 ) -> Stepped
-    ensures { λ r. ⌜ ((ks vs p : List ℕ) → load-no e reg over st (bufs (now (code .entry)) (now (lines .entry)) ks vs p) ≡ steppedIs r (bufs (now (code .exit)) (now (lines .exit)) ks vs p)) ⌝ }
+    ensures { λ r. ⌜ Steps-words (load-no e reg over) st r code lines ⌝ }
 {
     let answer = code_label(code, lines, st, reg, 0, 1);
     match answer {
@@ -400,7 +395,7 @@ fn load_false(
 }
 
 fn load_both(code: &mut [u32], lines: &mut [u32], st: State, e: ExprContext, reg: usize) -> Stepped
-    ensures { λ r. ⌜ ((ks vs p : List ℕ) → load-both e reg st (bufs (now (code .entry)) (now (lines .entry)) ks vs p) ≡ steppedIs r (bufs (now (code .exit)) (now (lines .exit)) ks vs p)) ⌝ }
+    ensures { λ r. ⌜ Steps-words (load-both e reg) st r code lines ⌝ }
 {
     let answer = jump_over(code, lines, st, e);
     match answer {
@@ -411,7 +406,7 @@ fn load_both(code: &mut [u32], lines: &mut [u32], st: State, e: ExprContext, reg
 
 // Whether some jump of either list brings no value.
 fn lacks_value(code: &[u32], e: ExprContext) -> bool
-    ensures { λ r. ⌜ (need-value (length (now (code .entry))) (now (code .entry)) (e .t) || need-value (length (now (code .entry))) (now (code .entry)) (e .f)) ≡ r ⌝ }
+    ensures { λ r. ⌜ lacks-value e (now (code .entry)) ≡ r ⌝ }
 {
     if need_value(code, e.t) {
         return true;
@@ -421,7 +416,7 @@ fn lacks_value(code: &[u32], e: ExprContext) -> bool
 
 // Loads of false and true where some jump brings no value, and all jumps land.
 fn settle(code: &mut [u32], lines: &mut [u32], st: State, e: ExprContext, reg: usize) -> Stepped
-    ensures { λ r. ⌜ ((ks vs p : List ℕ) → settleOf e reg st (bufs (now (code .entry)) (now (lines .entry)) ks vs p) ≡ steppedIs r (bufs (now (code .exit)) (now (lines .exit)) ks vs p)) ⌝ }
+    ensures { λ r. ⌜ Steps-words (settleOf e reg) st r code lines ⌝ }
 {
     if lacks_value(code, e) {
         return load_both(code, lines, st, e, reg);
@@ -432,7 +427,7 @@ fn settle(code: &mut [u32], lines: &mut [u32], st: State, e: ExprContext, reg: u
 
 // A comparison's own jump joins the true list.
 fn join_jump(code: &mut [u32], e: ExprContext) -> ExprContext
-    ensures { λ r. ⌜ ((s : State) (ls ks vs p : List ℕ) → join-jump e s (bufs (now (code .entry)) ls ks vs p) ≡ done r s (bufs (now (code .exit)) ls ks vs p)) ⌝ }
+    ensures { λ r. ⌜ ((s : State) → Answers-code (join-jump e) s (done r s) code) ⌝ }
 {
     if is_kind(e, ExprKind::Jmp) {
         let t = concat_jumps(code, e.t, jump_list(e.info));
@@ -453,7 +448,7 @@ fn settled(answer: Stepped, e: ExprContext) -> Described
 
 // A value that was brought to the register, and the values that jumps bring there.
 fn place(code: &mut [u32], lines: &mut [u32], st: State, e: ExprContext, reg: usize) -> Described
-    ensures { λ r. ⌜ ((ks vs p : List ℕ) → placed e reg st (bufs (now (code .entry)) (now (lines .entry)) ks vs p) ≡ describedIs r (bufs (now (code .exit)) (now (lines .exit)) ks vs p)) ⌝ }
+    ensures { λ r. ⌜ Describes-words (placed e reg) st r code lines ⌝ }
 {
     let d = join_jump(code, e);
     let bare = with_jumps(d, 0, 0);
@@ -527,7 +522,7 @@ fn near(st: State, k: usize) -> Operand
 
 // Nil, true or false as a constant, only while the table has at most 255 entries.
 fn small(kinds: &mut [u8], values: &mut [u64], pool: &mut [u8], st: State, v: Val) -> Operand
-    ensures { λ r. ⌜ ((e : ExprContext) (cs ls : List ℕ) → smallOf e (add-constant [] v) st (bufs cs ls (now (kinds .entry)) (now (values .entry)) (now (pool .entry))) ≡ restIs Rk 0 e r (bufs cs ls (now (kinds .exit)) (now (values .exit)) (now (pool .exit)))) ⌝ }
+    ensures { λ r. ⌜ ((e : ExprContext) → Rests Rk 0 e (smallOf e (add-constant [] v)) st r kinds values pool) ⌝ }
 {
     let table = st.table;
     if fits_rk(table.count) {
@@ -548,7 +543,7 @@ fn rk_number(
     st: State,
     e: ExprContext,
 ) -> Operand
-    ensures { λ r. ⌜ ((cs ls : List ℕ) → rk-kind KNum e st (bufs cs ls (now (kinds .entry)) (now (values .entry)) (now (pool .entry))) ≡ restIs Rk 0 e r (bufs cs ls (now (kinds .exit)) (now (values .exit)) (now (pool .exit)))) ⌝ }
+    ensures { λ r. ⌜ Rests Rk 0 e (rk-kind KNum e) st r kinds values pool ⌝ }
 {
     let answer = number_constant(kinds, values, pool, st, e);
     match answer {
@@ -565,7 +560,7 @@ fn rk_kind(
     st: State,
     e: ExprContext,
 ) -> Operand
-    ensures { λ r. ⌜ ((cs ls : List ℕ) → rk-kind (e .kind) e st (bufs cs ls (now (kinds .entry)) (now (values .entry)) (now (pool .entry))) ≡ restIs Rk 0 e r (bufs cs ls (now (kinds .exit)) (now (values .exit)) (now (pool .exit)))) ⌝ }
+    ensures { λ r. ⌜ Rests Rk 0 e (rk-kind (e .kind) e) st r kinds values pool ⌝ }
 {
     if is_kind(e, ExprKind::Nil) {
         return small(kinds, values, pool, st, Val::Nil);
@@ -609,7 +604,7 @@ fn as_operand(
     e: ExprContext,
     want: Want,
 ) -> Operand
-    ensures { λ r. ⌜ (is-value e ≡ true → (reg : ℕ) (cs ls : List ℕ) → wanted want reg e st (bufs cs ls (now (kinds .entry)) (now (values .entry)) (now (pool .entry))) ≡ restIs want reg e r (bufs cs ls (now (kinds .exit)) (now (values .exit)) (now (pool .exit)))) ⌝ }
+    ensures { λ r. ⌜ (is-value e ≡ true → (reg : ℕ) → Rests want reg e (wanted want reg e) st r kinds values pool) ⌝ }
 {
     if wants_operand(want, e) {
         return rk_kind(kinds, values, pool, st, e);
@@ -701,7 +696,7 @@ fn landing(
     reg: usize,
     want: Want,
 ) -> Described
-    ensures { λ r. ⌜ ((ks vs p : List ℕ) → landing-of want reg e st (bufs (now (code .entry)) (now (lines .entry)) ks vs p) ≡ describedIs r (bufs (now (code .exit)) (now (lines .exit)) ks vs p)) ⌝ }
+    ensures { λ r. ⌜ Describes-words (landing-of want reg e) st r code lines ⌝ }
 {
     if keeps_open(want) {
         return Described::Done(st, e);
@@ -721,7 +716,7 @@ fn bring_there(
     reg: usize,
     want: Want,
 ) -> Described
-    ensures { λ r. ⌜ there-of want e reg st (bufs (now (code .entry)) (now (lines .entry)) (now (kinds .entry)) (now (values .entry)) (now (pool .entry))) ≡ describedIs r (bufs (now (code .exit)) (now (lines .exit)) (now (kinds .exit)) (now (values .exit)) (now (pool .exit))) ⌝ }
+    ensures { λ r. ⌜ Describes (there-of want e reg) st r code lines kinds values pool ⌝ }
 {
     let answer = load_kind(code, lines, kinds, values, pool, st, e, reg);
     match answer {
@@ -742,7 +737,7 @@ fn bring_reg(
     want: Want,
     reg: usize,
 ) -> Described
-    ensures { λ r. ⌜ (is-value e ≡ true → reg-of want reg e st (bufs (now (code .entry)) (now (lines .entry)) (now (kinds .entry)) (now (values .entry)) (now (pool .entry))) ≡ describedIs r (bufs (now (code .exit)) (now (lines .exit)) (now (kinds .exit)) (now (values .exit)) (now (pool .exit)))) ⌝ }
+    ensures { λ r. ⌜ (is-value e ≡ true → Describes (reg-of want reg e) st r code lines kinds values pool) ⌝ }
 {
     let to = spot_of(st, e, want, reg);
     match to {
@@ -764,7 +759,7 @@ fn bring_value(
     want: Want,
     reg: usize,
 ) -> Described
-    ensures { λ r. ⌜ (is-value e ≡ true → wanted want reg e st (bufs (now (code .entry)) (now (lines .entry)) (now (kinds .entry)) (now (values .entry)) (now (pool .entry))) ≡ describedIs r (bufs (now (code .exit)) (now (lines .exit)) (now (kinds .exit)) (now (values .exit)) (now (pool .exit)))) ⌝ }
+    ensures { λ r. ⌜ (is-value e ≡ true → Describes (wanted want reg e) st r code lines kinds values pool) ⌝ }
 {
     let first = as_operand(kinds, values, pool, st, e, want);
     match first {
@@ -786,7 +781,7 @@ fn as_wanted(
     want: Want,
     reg: usize,
 ) -> Described
-    ensures { λ r. ⌜ (wanted want reg e st (bufs (now (code .entry)) (now (lines .entry)) (now (kinds .entry)) (now (values .entry)) (now (pool .entry))) ≡ describedIs r (bufs (now (code .exit)) (now (lines .exit)) (now (kinds .exit)) (now (values .exit)) (now (pool .exit)))) × (only-value want ≡ true → (ks vs p : List ℕ) → discharge-vars e st (bufs (now (code .entry)) (now (lines .entry)) ks vs p) ≡ describedIs r (bufs (now (code .exit)) (now (lines .exit)) ks vs p)) ⌝ }
+    ensures { λ r. ⌜ Brings want reg e st r code lines kinds values pool ⌝ }
 {
     let answer = discharge_kind(code, lines, st, e);
     match answer {
@@ -919,7 +914,8 @@ fn bring_fields(
     want: Want,
     reg: usize,
 ) -> Brought
-    ensures { λ r. ⌜ ((s : State) (e : ExprContext) → stateOf at line pc count used active free frame jpc label ≡ s → contextOf kind info aux nval bits t f ≡ e → (wanted want reg e s (bufs (now (code .entry)) (now (lines .entry)) (now (kinds .entry)) (now (values .entry)) (now (pool .entry))) ≡ describedIs (changedOf r s e) (bufs (now (code .exit)) (now (lines .exit)) (now (kinds .exit)) (now (values .exit)) (now (pool .exit)))) × (only-value want ≡ true → (ks vs p : List ℕ) → discharge-vars e s (bufs (now (code .entry)) (now (lines .entry)) ks vs p) ≡ describedIs (changedOf r s e) (bufs (now (code .exit)) (now (lines .exit)) ks vs p))) ⌝ }
+    ensures { λ r. ⌜ ((s : State) (e : ExprContext) → stateOf at line pc count used active free frame jpc label ≡ s
+        → contextOf kind info aux nval bits t f ≡ e → Brings want reg e s (changedOf r s e) code lines kinds values pool) ⌝ }
 {
     let table = Table { count, used };
     let st = State {
@@ -957,7 +953,7 @@ pub fn bring(
     want: Want,
     reg: usize,
 ) -> Described
-    ensures { λ r. ⌜ wanted want reg e st (bufs (now (code .entry)) (now (lines .entry)) (now (kinds .entry)) (now (values .entry)) (now (pool .entry))) ≡ describedIs r (bufs (now (code .exit)) (now (lines .exit)) (now (kinds .exit)) (now (values .exit)) (now (pool .exit))) ⌝ }
+    ensures { λ r. ⌜ Describes (wanted want reg e) st r code lines kinds values pool ⌝ }
 {
     let table = st.table;
     let kind = e.kind;
@@ -994,7 +990,7 @@ pub fn bring(
 
 // A variable, an indexed value, a call or a vararg becomes a value.
 pub fn discharge_vars(code: &mut [u32], lines: &mut [u32], st: State, e: ExprContext) -> Described
-    ensures { λ r. ⌜ ((ks vs p : List ℕ) → discharge-vars e st (bufs (now (code .entry)) (now (lines .entry)) ks vs p) ≡ describedIs r (bufs (now (code .exit)) (now (lines .exit)) ks vs p)) ⌝ }
+    ensures { λ r. ⌜ Describes-words (discharge-vars e) st r code lines ⌝ }
 {
     let mut kinds = [0u8; 1];
     let mut values = [0u64; 1];
@@ -1040,7 +1036,7 @@ pub fn discharge2reg(
     e: ExprContext,
     reg: usize,
 ) -> Described
-    ensures { λ r. ⌜ discharge2regOf e reg st (bufs (now (code .entry)) (now (lines .entry)) (now (kinds .entry)) (now (values .entry)) (now (pool .entry))) ≡ describedIs r (bufs (now (code .exit)) (now (lines .exit)) (now (kinds .exit)) (now (values .exit)) (now (pool .exit))) ⌝ }
+    ensures { λ r. ⌜ Describes (discharge2regOf e reg) st r code lines kinds values pool ⌝ }
 {
     bring(code, lines, kinds, values, pool, st, e, Want::Load, reg)
 }
@@ -1054,7 +1050,7 @@ pub fn discharge2anyreg(
     st: State,
     e: ExprContext,
 ) -> Described
-    ensures { λ r. ⌜ discharge2anyregOf e st (bufs (now (code .entry)) (now (lines .entry)) (now (kinds .entry)) (now (values .entry)) (now (pool .entry))) ≡ describedIs r (bufs (now (code .exit)) (now (lines .exit)) (now (kinds .exit)) (now (values .exit)) (now (pool .exit))) ⌝ }
+    ensures { λ r. ⌜ Describes (discharge2anyregOf e) st r code lines kinds values pool ⌝ }
 {
     if is_kind(e, ExprKind::NonReloc) {
         return Described::Done(st, e);
@@ -1077,7 +1073,7 @@ pub fn exp2reg(
     e: ExprContext,
     reg: usize,
 ) -> Described
-    ensures { λ r. ⌜ exp2regOf e reg st (bufs (now (code .entry)) (now (lines .entry)) (now (kinds .entry)) (now (values .entry)) (now (pool .entry))) ≡ describedIs r (bufs (now (code .exit)) (now (lines .exit)) (now (kinds .exit)) (now (values .exit)) (now (pool .exit))) ⌝ }
+    ensures { λ r. ⌜ Describes (exp2regOf e reg) st r code lines kinds values pool ⌝ }
 {
     bring(code, lines, kinds, values, pool, st, e, Want::Reg, reg)
 }
@@ -1091,7 +1087,7 @@ pub fn exp2nextreg(
     st: State,
     e: ExprContext,
 ) -> Described
-    ensures { λ r. ⌜ exp2nextregOf e st (bufs (now (code .entry)) (now (lines .entry)) (now (kinds .entry)) (now (values .entry)) (now (pool .entry))) ≡ describedIs r (bufs (now (code .exit)) (now (lines .exit)) (now (kinds .exit)) (now (values .exit)) (now (pool .exit))) ⌝ }
+    ensures { λ r. ⌜ Describes (exp2nextregOf e) st r code lines kinds values pool ⌝ }
 {
     bring(code, lines, kinds, values, pool, st, e, Want::Next, 0)
 }
@@ -1106,7 +1102,7 @@ pub fn exp2anyreg(
     st: State,
     e: ExprContext,
 ) -> Described
-    ensures { λ r. ⌜ exp2anyregOf e st (bufs (now (code .entry)) (now (lines .entry)) (now (kinds .entry)) (now (values .entry)) (now (pool .entry))) ≡ describedIs r (bufs (now (code .exit)) (now (lines .exit)) (now (kinds .exit)) (now (values .exit)) (now (pool .exit))) ⌝ }
+    ensures { λ r. ⌜ Describes (exp2anyregOf e) st r code lines kinds values pool ⌝ }
 {
     bring(code, lines, kinds, values, pool, st, e, Want::Any, 0)
 }
@@ -1120,7 +1116,7 @@ pub fn exp2val(
     st: State,
     e: ExprContext,
 ) -> Described
-    ensures { λ r. ⌜ exp2valOf e st (bufs (now (code .entry)) (now (lines .entry)) (now (kinds .entry)) (now (values .entry)) (now (pool .entry))) ≡ describedIs r (bufs (now (code .exit)) (now (lines .exit)) (now (kinds .exit)) (now (values .exit)) (now (pool .exit))) ⌝ }
+    ensures { λ r. ⌜ Describes (exp2valOf e) st r code lines kinds values pool ⌝ }
 {
     bring(code, lines, kinds, values, pool, st, e, Want::Val, 0)
 }
@@ -1135,7 +1131,7 @@ pub fn exp2rk(
     st: State,
     e: ExprContext,
 ) -> Described
-    ensures { λ r. ⌜ exp2rkOf e st (bufs (now (code .entry)) (now (lines .entry)) (now (kinds .entry)) (now (values .entry)) (now (pool .entry))) ≡ describedIs r (bufs (now (code .exit)) (now (lines .exit)) (now (kinds .exit)) (now (values .exit)) (now (pool .exit))) ⌝ }
+    ensures { λ r. ⌜ Describes (exp2rkOf e) st r code lines kinds values pool ⌝ }
 {
     bring(code, lines, kinds, values, pool, st, e, Want::Rk, 0)
 }

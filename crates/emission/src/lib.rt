@@ -1,11 +1,11 @@
 // Emitting words, listing constants and taking registers: the lower part of rilua's codegen.rs, over the lent words and lines. A state goes in by value and comes back in the answer;
 // what cannot be refused answers with the state alone. Nothing is assumed of the state.
-ghost use mathlib.Core.List.{List};
 ghost use mathlib.Core.Path.{_≡_};
-ghost use Prim.Native.Nat.{ℕ, _+_};
+ghost use Prim.Native.Nat.{_+_};
 ghost use lib.ListN.{length};
 ghost use Rattle.instructions.specs.Limits.{noReg};
-ghost use Rattle.model.specs.Steps.{Buffers, bufs, done, steppedIs, givenIs};
+ghost use Rattle.model.specs.Steps.{Buffers, done, steppedIs, givenIs};
+ghost use Rattle.model.specs.Contracts.{Answers-code, Gives-constants, Gives-words, Rewrites, Steps-words, bytes};
 ghost use Rattle.model.specs.Jumps.{patch-list-aux};
 ghost use Rattle.model.specs.Emission.{with-pc, with-free, with-frame, with-jpc, with-label, discharge-jpc, push as pushOf, emit-at, emit as emitOf, emit-abc, emit-abx, emit-jump, patch-to-here, get-label, code-label, adjoins as adjoinsOf, load-nil, emit-nil, check-stack, reserve-regs, alloc-reg, free-reg, with-table, keep as keepOf, add-constant};
 ghost use Rattle.emission.specs.Parts.{freed-to};
@@ -33,27 +33,15 @@ use refusals::Refusal;
 
 // ---- the state with another field
 
-// Below, the table is built anew, number by number: as a copied struct it would be read back in one piece, for which the machine waits.
 pub fn with_pc(st: State, pc: usize) -> State
     ensures { λ r. ⌜ with-pc pc st ≡ r ⌝ }
 {
-    let table = Table {
-        count: st.table.count,
-        used: st.table.used,
-    };
-    State {
-        at: st.at,
-        line: st.line,
-        pc,
-        table,
-        active: st.active,
-        free: st.free,
-        frame: st.frame,
-        jpc: st.jpc,
-        label: st.label,
-    }
+    let mut s = st;
+    s.pc = pc;
+    s
 }
 
+// with_free, with_jpc and with_table build the state anew, number by number: after a store it would be read back in larger pieces, for which the machine waits.
 pub fn with_free(st: State, free: usize) -> State
     ensures { λ r. ⌜ with-free free st ≡ r ⌝ }
 {
@@ -77,21 +65,9 @@ pub fn with_free(st: State, free: usize) -> State
 fn with_frame(st: State, frame: usize) -> State
     ensures { λ r. ⌜ with-frame frame st ≡ r ⌝ }
 {
-    let table = Table {
-        count: st.table.count,
-        used: st.table.used,
-    };
-    State {
-        at: st.at,
-        line: st.line,
-        pc: st.pc,
-        table,
-        active: st.active,
-        free: st.free,
-        frame,
-        jpc: st.jpc,
-        label: st.label,
-    }
+    let mut s = st;
+    s.frame = frame;
+    s
 }
 
 fn with_jpc(st: State, jpc: usize) -> State
@@ -117,21 +93,9 @@ fn with_jpc(st: State, jpc: usize) -> State
 fn with_label(st: State, label: usize) -> State
     ensures { λ r. ⌜ with-label label st ≡ r ⌝ }
 {
-    let table = Table {
-        count: st.table.count,
-        used: st.table.used,
-    };
-    State {
-        at: st.at,
-        line: st.line,
-        pc: st.pc,
-        table,
-        active: st.active,
-        free: st.free,
-        frame: st.frame,
-        jpc: st.jpc,
-        label,
-    }
+    let mut s = st;
+    s.label = label;
+    s
 }
 
 fn with_table(st: State, table: Table) -> State
@@ -154,7 +118,7 @@ fn with_table(st: State, table: Table) -> State
 
 // The pending jumps lead to the word pc. Mostly there are none, and then no call is made.
 fn patch_pending(code: &mut [u32], jpc: usize, pc: usize)
-    ensures { λ _. ⌜ patch-list-aux (length (now (code .entry))) (now (code .entry)) jpc pc noReg pc ≡ now (code .exit) ⌝ }
+    ensures { λ _. ⌜ Rewrites (λ c. patch-list-aux (length c) c jpc pc noReg pc) code ⌝ }
 {
     if jpc == 0 {
         return;
@@ -164,7 +128,7 @@ fn patch_pending(code: &mut [u32], jpc: usize, pc: usize)
 
 // The pending jumps lead to the word to come.
 fn discharge_jpc(code: &mut [u32], st: State) -> State
-    ensures { λ r. ⌜ ((ls ks vs p : List ℕ) → discharge-jpc st (bufs (now (code .entry)) ls ks vs p) ≡ done tt r (bufs (now (code .exit)) ls ks vs p)) ⌝ }
+    ensures { λ r. ⌜ Answers-code discharge-jpc st (done tt r) code ⌝ }
 {
     patch_pending(code, st.jpc, st.pc);
     with_jpc(st, 0)
@@ -172,7 +136,7 @@ fn discharge_jpc(code: &mut [u32], st: State) -> State
 
 // A word and its line behind the others, or refusal 13.
 fn push(code: &mut [u32], lines: &mut [u32], st: State, w: u32, line: u32) -> Given
-    ensures { λ r. ⌜ ((ks vs p : List ℕ) → pushOf w line st (bufs (now (code .entry)) (now (lines .entry)) ks vs p) ≡ givenIs r (bufs (now (code .exit)) (now (lines .exit)) ks vs p)) ⌝ }
+    ensures { λ r. ⌜ Gives-words (pushOf w line) st r code lines ⌝ }
 {
     let pc = st.pc;
     if code.len() <= pc {
@@ -191,7 +155,7 @@ fn push(code: &mut [u32], lines: &mut [u32], st: State, w: u32, line: u32) -> Gi
 
 // `emit`, at a line: where the word is.
 pub fn emit_at(code: &mut [u32], lines: &mut [u32], st: State, w: u32, line: u32) -> Given
-    ensures { λ r. ⌜ ((ks vs p : List ℕ) → emit-at w line st (bufs (now (code .entry)) (now (lines .entry)) ks vs p) ≡ givenIs r (bufs (now (code .exit)) (now (lines .exit)) ks vs p)) ⌝ }
+    ensures { λ r. ⌜ Gives-words (emit-at w line) st r code lines ⌝ }
 {
     let s = discharge_jpc(code, st);
     push(code, lines, s, w, line)
@@ -199,7 +163,7 @@ pub fn emit_at(code: &mut [u32], lines: &mut [u32], st: State, w: u32, line: u32
 
 // `emit` on the current line.
 pub fn emit(code: &mut [u32], lines: &mut [u32], st: State, w: u32) -> Given
-    ensures { λ r. ⌜ ((ks vs p : List ℕ) → emitOf w st (bufs (now (code .entry)) (now (lines .entry)) ks vs p) ≡ givenIs r (bufs (now (code .exit)) (now (lines .exit)) ks vs p)) ⌝ }
+    ensures { λ r. ⌜ Gives-words (emitOf w) st r code lines ⌝ }
 {
     emit_at(code, lines, st, w, st.line)
 }
@@ -213,7 +177,7 @@ pub fn emit_abc(
     b: usize,
     c: usize,
 ) -> Given
-    ensures { λ r. ⌜ ((ks vs p : List ℕ) → emit-abc op a b c st (bufs (now (code .entry)) (now (lines .entry)) ks vs p) ≡ givenIs r (bufs (now (code .exit)) (now (lines .exit)) ks vs p)) ⌝ }
+    ensures { λ r. ⌜ Gives-words (emit-abc op a b c) st r code lines ⌝ }
 {
     let i = Instruction::abc(
         op,
@@ -232,7 +196,7 @@ pub fn emit_abx(
     a: usize,
     bx: usize,
 ) -> Given
-    ensures { λ r. ⌜ ((ks vs p : List ℕ) → emit-abx op a bx st (bufs (now (code .entry)) (now (lines .entry)) ks vs p) ≡ givenIs r (bufs (now (code .exit)) (now (lines .exit)) ks vs p)) ⌝ }
+    ensures { λ r. ⌜ Gives-words (emit-abx op a bx) st r code lines ⌝ }
 {
     let i = Instruction::a_bx(op, (a % A_SIZE) as u32, (bx % BX_SIZE) as u32);
     emit(code, lines, st, i.raw)
@@ -240,7 +204,7 @@ pub fn emit_abx(
 
 // A list of the new jump and the pending ones, which it takes over; their `TestSet` become `Test` first (difference 1).
 pub fn emit_jump(code: &mut [u32], lines: &mut [u32], st: State) -> Given
-    ensures { λ r. ⌜ ((ks vs p : List ℕ) → emit-jump st (bufs (now (code .entry)) (now (lines .entry)) ks vs p) ≡ givenIs r (bufs (now (code .exit)) (now (lines .exit)) ks vs p)) ⌝ }
+    ensures { λ r. ⌜ Gives-words emit-jump st r code lines ⌝ }
 {
     let jpc = st.jpc;
     remove_values(code, jpc);
@@ -254,7 +218,7 @@ pub fn emit_jump(code: &mut [u32], lines: &mut [u32], st: State) -> Given
 
 // The list's jumps lead to the word to come.
 pub fn patch_to_here(code: &mut [u32], st: State, list: usize) -> State
-    ensures { λ r. ⌜ ((ls ks vs p : List ℕ) → patch-to-here list st (bufs (now (code .entry)) ls ks vs p) ≡ done tt r (bufs (now (code .exit)) ls ks vs p)) ⌝ }
+    ensures { λ r. ⌜ Answers-code (patch-to-here list) st (done tt r) code ⌝ }
 {
     let l = concat_jumps(code, st.jpc, list);
     with_jpc(st, l)
@@ -279,7 +243,7 @@ pub fn code_label(
     b: usize,
     jump: usize,
 ) -> Given
-    ensures { λ r. ⌜ ((ks vs p : List ℕ) → code-label reg b jump st (bufs (now (code .entry)) (now (lines .entry)) ks vs p) ≡ givenIs r (bufs (now (code .exit)) (now (lines .exit)) ks vs p)) ⌝ }
+    ensures { λ r. ⌜ Gives-words (code-label reg b jump) st r code lines ⌝ }
 {
     let s = get_label(st);
     emit_abc(code, lines, s, OpCode::LoadBool, reg, b, jump)
@@ -300,7 +264,7 @@ fn adjoins(w: u32, from: usize) -> bool
 }
 
 fn load_nil(code: &mut [u32], lines: &mut [u32], st: State, reg: usize) -> Stepped
-    ensures { λ r. ⌜ ((ks vs p : List ℕ) → load-nil reg st (bufs (now (code .entry)) (now (lines .entry)) ks vs p) ≡ steppedIs r (bufs (now (code .exit)) (now (lines .exit)) ks vs p)) ⌝ }
+    ensures { λ r. ⌜ Steps-words (load-nil reg) st r code lines ⌝ }
 {
     let answer = emit_abc(code, lines, st, OpCode::LoadNil, reg, reg, 0);
     match answer {
@@ -311,7 +275,7 @@ fn load_nil(code: &mut [u32], lines: &mut [u32], st: State, reg: usize) -> Stepp
 
 // `emit_nil` for one register: nothing at word 0, where all registers above the locals are nil; an adjoining `LoadNil` is lengthened; both unless a label lies at the word to come.
 pub fn emit_nil(code: &mut [u32], lines: &mut [u32], st: State, from: usize) -> Stepped
-    ensures { λ r. ⌜ ((ks vs p : List ℕ) → emit-nil from st (bufs (now (code .entry)) (now (lines .entry)) ks vs p) ≡ steppedIs r (bufs (now (code .exit)) (now (lines .exit)) ks vs p)) ⌝ }
+    ensures { λ r. ⌜ Steps-words (emit-nil from) st r code lines ⌝ }
 {
     let pc = st.pc;
     if pc < st.label {
@@ -356,7 +320,7 @@ pub fn add_constant(
     st: State,
     v: Val,
 ) -> Given
-    ensures { λ r. ⌜ ((cs ls : List ℕ) → add-constant (now (chunk .entry)) v st (bufs cs ls (now (kinds .entry)) (now (values .entry)) (now (pool .entry))) ≡ givenIs r (bufs cs ls (now (kinds .exit)) (now (values .exit)) (now (pool .exit)))) ⌝ }
+    ensures { λ r. ⌜ Gives-constants (add-constant (bytes chunk) v) st r kinds values pool ⌝ }
 {
     let table = st.table;
     keep(

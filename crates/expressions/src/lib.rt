@@ -4,7 +4,7 @@ ghost use mathlib.Core.List.{List};
 ghost use mathlib.Core.Path.{_≡_};
 ghost use Prim.Native.Nat.{ℕ};
 ghost use Rattle.chunk.specs.declared.header.Header.{Header};
-ghost use Rattle.model.specs.Steps.{andThen, describedIs, bufs};
+ghost use Rattle.model.specs.Contracts.{Describes, Follows, bytes};
 ghost use Rattle.model.specs.Emission.{with-place};
 ghost use Rattle.model.specs.Expressions.{after-one, between as betweenOf, callee as calleeOf, after-two, compile-expr, compile-funcargs};
 use ast::Head;
@@ -18,7 +18,6 @@ use calls::leaf_expr;
 use calls::set_indexed;
 use calls::string_constant;
 use chunk::header::Header;
-use constants::Table;
 use discharge::discharge_vars;
 use discharge::exp2anyreg;
 use discharge::exp2nextreg;
@@ -48,7 +47,7 @@ pub fn after_one(
     o: One,
     e: ExprContext,
 ) -> Described
-    ensures { λ r. ⌜ ((h : Header) → after-one (now (chunk .entry)) h o e st (bufs (now (code .entry)) (now (lines .entry)) (now (kinds .entry)) (now (values .entry)) (now (pool .entry))) ≡ describedIs r (bufs (now (code .exit)) (now (lines .exit)) (now (kinds .exit)) (now (values .exit)) (now (pool .exit)))) ⌝ }
+    ensures { λ r. ⌜ ((h : Header) → Describes (after-one (bytes chunk) h o e) st r code lines kinds values pool) ⌝ }
 {
     match o {
         One::Unary(op) => prefix(code, lines, kinds, values, pool, st, op, e),
@@ -83,7 +82,7 @@ pub fn between(
     t: Two,
     e: ExprContext,
 ) -> Described
-    ensures { λ r. ⌜ ((chunk : List ℕ) (h : Header) → betweenOf chunk h t e st (bufs (now (code .entry)) (now (lines .entry)) (now (kinds .entry)) (now (values .entry)) (now (pool .entry))) ≡ describedIs r (bufs (now (code .exit)) (now (lines .exit)) (now (kinds .exit)) (now (values .exit)) (now (pool .exit)))) ⌝ }
+    ensures { λ r. ⌜ ((c : List ℕ) (h : Header) → Describes (betweenOf c h t e) st r code lines kinds values pool) ⌝ }
 {
     match t {
         Two::Binary(op) => infix(code, lines, kinds, values, pool, st, op, e),
@@ -103,7 +102,8 @@ pub fn after_two(
     e1: ExprContext,
     e2: ExprContext,
 ) -> Described
-    ensures { λ r. ⌜ ((chunk : List ℕ) (h : Header) → after-two chunk h t e1 e2 st (bufs (now (code .entry)) (now (lines .entry)) (now (kinds .entry)) (now (values .entry)) (now (pool .entry))) ≡ describedIs r (bufs (now (code .exit)) (now (lines .exit)) (now (kinds .exit)) (now (values .exit)) (now (pool .exit)))) ⌝ }
+    ensures { λ r. ⌜ ((c : List ℕ) (h : Header)
+        → Describes (after-two c h t e1 e2) st r code lines kinds values pool) ⌝ }
 {
     match t {
         Two::Binary(op) => postfix(code, lines, kinds, values, pool, st, op, e1, e2),
@@ -122,7 +122,7 @@ fn then_one(
     first: Described,
     o: One,
 ) -> Described
-    ensures { λ r. ⌜ ((h : Header) → andThen (describedIs first (bufs (now (code .entry)) (now (lines .entry)) (now (kinds .entry)) (now (values .entry)) (now (pool .entry)))) (after-one (now (chunk .entry)) h o) ≡ describedIs r (bufs (now (code .exit)) (now (lines .exit)) (now (kinds .exit)) (now (values .exit)) (now (pool .exit)))) ⌝ }
+    ensures { λ r. ⌜ ((h : Header) → Follows first (after-one (bytes chunk) h o) r code lines kinds values pool) ⌝ }
 {
     match first {
         Described::Done(s, e) => after_one(chunk, code, lines, kinds, values, pool, s, o, e),
@@ -139,7 +139,7 @@ fn then_between(
     first: Described,
     t: Two,
 ) -> Described
-    ensures { λ r. ⌜ ((chunk : List ℕ) (h : Header) → andThen (describedIs first (bufs (now (code .entry)) (now (lines .entry)) (now (kinds .entry)) (now (values .entry)) (now (pool .entry)))) (betweenOf chunk h t) ≡ describedIs r (bufs (now (code .exit)) (now (lines .exit)) (now (kinds .exit)) (now (values .exit)) (now (pool .exit)))) ⌝ }
+    ensures { λ r. ⌜ ((c : List ℕ) (h : Header) → Follows first (betweenOf c h t) r code lines kinds values pool) ⌝ }
 {
     match first {
         Described::Done(s, e) => between(code, lines, kinds, values, pool, s, t, e),
@@ -157,7 +157,7 @@ fn then_callee(
     first: Described,
     m: Many,
 ) -> Described
-    ensures { λ r. ⌜ ((h : Header) → andThen (describedIs first (bufs (now (code .entry)) (now (lines .entry)) (now (kinds .entry)) (now (values .entry)) (now (pool .entry)))) (calleeOf (now (chunk .entry)) h m) ≡ describedIs r (bufs (now (code .exit)) (now (lines .exit)) (now (kinds .exit)) (now (values .exit)) (now (pool .exit)))) ⌝ }
+    ensures { λ r. ⌜ ((h : Header) → Follows first (calleeOf (bytes chunk) h m) r code lines kinds values pool) ⌝ }
 {
     match first {
         Described::Done(s, e) => callee(chunk, code, lines, kinds, values, pool, s, m, e),
@@ -175,7 +175,7 @@ fn then_two(
     t: Two,
     e: ExprContext,
 ) -> Described
-    ensures { λ r. ⌜ ((chunk : List ℕ) (h : Header) → andThen (describedIs second (bufs (now (code .entry)) (now (lines .entry)) (now (kinds .entry)) (now (values .entry)) (now (pool .entry)))) (after-two chunk h t e) ≡ describedIs r (bufs (now (code .exit)) (now (lines .exit)) (now (kinds .exit)) (now (values .exit)) (now (pool .exit)))) ⌝ }
+    ensures { λ r. ⌜ ((c : List ℕ) (h : Header) → Follows second (after-two c h t e) r code lines kinds values pool) ⌝ }
 {
     match second {
         Described::Done(s, d) => after_two(code, lines, kinds, values, pool, s, t, e, d),
@@ -187,21 +187,10 @@ fn then_two(
 fn with_place(st: State, at: usize, line: u32) -> State
     ensures { λ r. ⌜ with-place at line st ≡ r ⌝ }
 {
-    let table = Table {
-        count: st.table.count,
-        used: st.table.used,
-    };
-    State {
-        at,
-        line,
-        pc: st.pc,
-        table,
-        active: st.active,
-        free: st.free,
-        frame: st.frame,
-        jpc: st.jpc,
-        label: st.label,
-    }
+    let mut s = st;
+    s.at = at;
+    s.line = line;
+    s
 }
 
 // ---- the recursion
@@ -218,7 +207,7 @@ pub fn compile_expr(
     st: State,
     left: usize,
 ) -> Described
-    ensures { λ r. ⌜ compile-expr (now (chunk .entry)) h left st (bufs (now (code .entry)) (now (lines .entry)) (now (kinds .entry)) (now (values .entry)) (now (pool .entry))) ≡ describedIs r (bufs (now (code .exit)) (now (lines .exit)) (now (kinds .exit)) (now (values .exit)) (now (pool .exit))) ⌝ }
+    ensures { λ r. ⌜ Describes (compile-expr (bytes chunk) h left) st r code lines kinds values pool ⌝ }
 {
     if left == 0 {
         return Described::Refused(Refusal::Nesting);
@@ -296,7 +285,8 @@ pub fn compile_funcargs(
     line: u32,
     n: u8,
 ) -> Described
-    ensures { λ r. ⌜ compile-funcargs (compile-expr (now (chunk .entry)) h left) func line n st (bufs (now (code .entry)) (now (lines .entry)) (now (kinds .entry)) (now (values .entry)) (now (pool .entry))) ≡ describedIs r (bufs (now (code .exit)) (now (lines .exit)) (now (kinds .exit)) (now (values .exit)) (now (pool .exit))) ⌝ }
+    ensures { λ r. ⌜ Describes (compile-funcargs (compile-expr (bytes chunk) h left) func line n)
+        st r code lines kinds values pool ⌝ }
 {
     let mut s = st;
     let mut rest = n;

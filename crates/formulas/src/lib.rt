@@ -1,9 +1,6 @@
 // What a chunk's header and formulas are lowered to: the locals' registers, the formulas one after another, `Return` (document 01, "Lowering").
-ghost use mathlib.Core.List.{List};
-ghost use mathlib.Core.Path.{_≡_};
-ghost use Prim.Native.Nat.{ℕ};
 ghost use Rattle.chunk.specs.Form.{maxNesting};
-ghost use Rattle.model.specs.Steps.{steppedIs, bufs};
+ghost use Rattle.model.specs.Contracts.{Steps, Steps-words, bytes};
 ghost use Rattle.model.specs.Expressions.{compile-expr};
 ghost use Rattle.model.specs.Lowering.{formulas as formulasOf, lower-chunk};
 ghost use Rattle.formulas.specs.Parts.{returning};
@@ -32,7 +29,7 @@ fn formulas(
     st: State,
     n: usize,
 ) -> Stepped
-    ensures { λ r. ⌜ formulasOf (compile-expr (now (chunk .entry)) h maxNesting) n st (bufs (now (code .entry)) (now (lines .entry)) (now (kinds .entry)) (now (values .entry)) (now (pool .entry))) ≡ steppedIs r (bufs (now (code .exit)) (now (lines .exit)) (now (kinds .exit)) (now (values .exit)) (now (pool .exit))) ⌝ }
+    ensures { λ r. ⌜ Steps (formulasOf (compile-expr (bytes chunk) h maxNesting) n) st r code lines kinds values pool ⌝ }
 {
     let mut s = st;
     let mut rest = n;
@@ -61,7 +58,7 @@ fn formulas(
 
 // `Return` with the locals' number, and one more than the formulas'; of that, what fits the field.
 fn add_return(code: &mut [u32], lines: &mut [u32], st: State, h: Header) -> Stepped
-    ensures { λ r. ⌜ ((ks vs p : List ℕ) → returning h st (bufs (now (code .entry)) (now (lines .entry)) ks vs p) ≡ steppedIs r (bufs (now (code .exit)) (now (lines .exit)) ks vs p)) ⌝ }
+    ensures { λ r. ⌜ Steps-words (returning h) st r code lines ⌝ }
 {
     let answer = emit_abc(
         code,
@@ -89,7 +86,7 @@ pub fn lower_chunk(
     pool: &mut [u8],
     st: State,
 ) -> Stepped
-    ensures { λ r. ⌜ lower-chunk (now (chunk .entry)) h st (bufs (now (code .entry)) (now (lines .entry)) (now (kinds .entry)) (now (values .entry)) (now (pool .entry))) ≡ steppedIs r (bufs (now (code .exit)) (now (lines .exit)) (now (kinds .exit)) (now (values .exit)) (now (pool .exit))) ⌝ }
+    ensures { λ r. ⌜ Steps (lower-chunk (bytes chunk) h) st r code lines kinds values pool ⌝ }
 {
     let reserved = reserve_regs(st, h.locals);
     match reserved {

@@ -1,13 +1,11 @@
 // The entry `lower`, which clears, checks the form, and lowers (document 01, "Refused chunks").
-ghost use mathlib.Core.List.{List};
 ghost use mathlib.Core.Path.{_≡_};
-ghost use Prim.Native.Nat.{ℕ};
 ghost use lib.ListN.{length};
 ghost use Rattle.buffers.specs.Pad.{zeros};
-ghost use Rattle.model.specs.Steps.{bufs};
-ghost use Rattle.model.specs.Claims.{sizes, Lowers};
-ghost use Rattle.model.specs.Lowering.{cleared, start, out};
-ghost use Rattle.lowering.specs.Parts.{from-header, scratch-of};
+ghost use Rattle.model.specs.Contracts.{Lowers-lent, after, bytes};
+ghost use Rattle.model.specs.Claims.{sizes};
+ghost use Rattle.model.specs.Lowering.{cleared, start};
+ghost use Rattle.lowering.specs.Parts.{Lowers-cleared};
 use buffers::clear_bytes;
 use buffers::clear_values;
 use buffers::clear_words;
@@ -26,7 +24,7 @@ use refusals::Refusal;
 
 // Zeros only; a slice keeps its length.
 fn clear(code: &mut [u32], lines: &mut [u32], kinds: &mut [u8], values: &mut [u64], pool: &mut [u8])
-    ensures { λ _. ⌜ cleared (sizes (bufs (now (code .exit)) (now (lines .exit)) (now (kinds .exit)) (now (values .exit)) (now (pool .exit))) 0) ≡ bufs (now (code .exit)) (now (lines .exit)) (now (kinds .exit)) (now (values .exit)) (now (pool .exit)) ⌝ }
+    ensures { λ _. ⌜ cleared (sizes (after code lines kinds values pool) 0) ≡ after code lines kinds values pool ⌝ }
 {
     clear_words(code);
     clear_words(lines);
@@ -67,7 +65,7 @@ fn lower_cleared(
     values: &mut [u64],
     pool: &mut [u8],
 ) -> Lowered
-    ensures { λ r. ⌜ ((n : ℕ) (places : List ℕ) → from-header (sizes (bufs (now (code .entry)) (now (lines .entry)) (now (kinds .entry)) (now (values .entry)) (now (pool .entry))) n) (now (chunk .entry)) places (bufs (now (code .entry)) (now (lines .entry)) (now (kinds .entry)) (now (values .entry)) (now (pool .entry))) ≡ out r (bufs (now (code .exit)) (now (lines .exit)) (now (kinds .exit)) (now (values .exit)) (now (pool .exit))) (scratch-of r n places)) ⌝ }
+    ensures { λ r. ⌜ Lowers-cleared (bytes chunk) r code lines kinds values pool ⌝ }
 {
     let header = read_header(chunk);
     match header {
@@ -104,7 +102,7 @@ pub fn lower(
     pool: &mut [u8],
     scratch: &mut [u32],
 ) -> Lowered
-    ensures { λ r. ⌜ Lowers (sizes (bufs (now (code .entry)) (now (lines .entry)) (now (kinds .entry)) (now (values .entry)) (now (pool .entry))) (length (now (scratch .entry)))) (now (chunk .entry)) r (bufs (now (code .exit)) (now (lines .exit)) (now (kinds .exit)) (now (values .exit)) (now (pool .exit))) (now (scratch .exit)) ⌝ }
+    ensures { λ r. ⌜ Lowers-lent (bytes chunk) r code lines kinds values pool scratch ⌝ }
 {
     clear(code, lines, kinds, values, pool);
     let form = check_form(chunk, scratch);

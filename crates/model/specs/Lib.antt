@@ -11,5 +11,6 @@ pub mod Operators
 pub mod Expressions
 pub mod Lowering
 pub mod Claims
+pub mod Contracts
 pub mod Rows
 pub mod Runs

@@ -1,10 +1,9 @@
 // Operators: infix, postfix and prefix, with folding, arithmetic, comparisons and concatenation (rilua's codegen.rs), over the lent buffers.
 // A state and descriptors go in by value and come back in the answer. Nothing is assumed of either.
 ghost use mathlib.Core.Bool.{not, _&&_};
-ghost use mathlib.Core.List.{List};
 ghost use mathlib.Core.Path.{_≡_};
-ghost use Prim.Native.Nat.{ℕ};
-ghost use Rattle.model.specs.Steps.{Buffers, bufs, done, andThen, givenIs, describedIs};
+ghost use Rattle.model.specs.Steps.{Buffers, done, andThen, givenIs, describedIs};
+ghost use Rattle.model.specs.Contracts.{Answers-values, Describes, Describes-words};
 ghost use Rattle.model.specs.declared.ExprKind.the-variants.{NonReloc};
 ghost use Rattle.model.specs.Descriptor.{is-numeral, isKind, has-jumps};
 ghost use Rattle.model.specs.Discharge.{exp2rk as exp2rkOf};
@@ -80,16 +79,10 @@ fn const_fold(op: Arith, e1: ExprContext, e2: ExprContext) -> Fold
 fn with_number(e: ExprContext, n: Numeral) -> ExprContext
     ensures { λ r. ⌜ with-number n e ≡ r ⌝ }
 {
-    let kind = e.kind;
-    ExprContext {
-        kind,
-        info: e.info,
-        aux: e.aux,
-        nval: n.value,
-        bits: n.bits,
-        t: e.t,
-        f: e.f,
-    }
+    let mut d = e;
+    d.nval = n.value;
+    d.bits = n.bits;
+    d
 }
 
 // ---- operands
@@ -114,7 +107,7 @@ fn exp2rk_again(
     st: State,
     e: ExprContext,
 ) -> Described
-    ensures { λ r. ⌜ exp2rkOf e st (bufs (now (code .entry)) (now (lines .entry)) (now (kinds .entry)) (now (values .entry)) (now (pool .entry))) ≡ describedIs r (bufs (now (code .exit)) (now (lines .exit)) (now (kinds .exit)) (now (values .exit)) (now (pool .exit))) ⌝ }
+    ensures { λ r. ⌜ Describes (exp2rkOf e) st r code lines kinds values pool ⌝ }
 {
     if plain_register(e) {
         return Described::Done(st, e);
@@ -147,7 +140,7 @@ fn arith_word(
     b: ExprContext,
     c: ExprContext,
 ) -> Described
-    ensures { λ r. ⌜ ((ks vs p : List ℕ) → arith-of op b c st (bufs (now (code .entry)) (now (lines .entry)) ks vs p) ≡ describedIs r (bufs (now (code .exit)) (now (lines .exit)) ks vs p)) ⌝ }
+    ensures { λ r. ⌜ Describes-words (arith-of op b c) st r code lines ⌝ }
 {
     let s = free_both(st, b, c);
     emit_relocable(code, lines, s, arith_op(op), rk(b), rk(c), b)
@@ -165,7 +158,7 @@ fn arith_onto(
     e1: ExprContext,
     c: ExprContext,
 ) -> Described
-    ensures { λ r. ⌜ arith-left op e1 c st (bufs (now (code .entry)) (now (lines .entry)) (now (kinds .entry)) (now (values .entry)) (now (pool .entry))) ≡ describedIs r (bufs (now (code .exit)) (now (lines .exit)) (now (kinds .exit)) (now (values .exit)) (now (pool .exit))) ⌝ }
+    ensures { λ r. ⌜ Describes (arith-left op e1 c) st r code lines kinds values pool ⌝ }
 {
     let answer = exp2rk_again(code, lines, kinds, values, pool, st, e1);
     match answer {
@@ -186,7 +179,7 @@ pub fn code_arith(
     e1: ExprContext,
     e2: ExprContext,
 ) -> Described
-    ensures { λ r. ⌜ code-arith op e1 e2 st (bufs (now (code .entry)) (now (lines .entry)) (now (kinds .entry)) (now (values .entry)) (now (pool .entry))) ≡ describedIs r (bufs (now (code .exit)) (now (lines .exit)) (now (kinds .exit)) (now (values .exit)) (now (pool .exit))) ⌝ }
+    ensures { λ r. ⌜ Describes (code-arith op e1 e2) st r code lines kinds values pool ⌝ }
 {
     let folded = const_fold(op, e1, e2);
     match folded {
@@ -214,7 +207,7 @@ pub fn code_unary(
     op: OpCode,
     e: ExprContext,
 ) -> Described
-    ensures { λ r. ⌜ code-unary op e st (bufs (now (code .entry)) (now (lines .entry)) (now (kinds .entry)) (now (values .entry)) (now (pool .entry))) ≡ describedIs r (bufs (now (code .exit)) (now (lines .exit)) (now (kinds .exit)) (now (values .exit)) (now (pool .exit))) ⌝ }
+    ensures { λ r. ⌜ Describes (code-unary op e) st r code lines kinds values pool ⌝ }
 {
     let answer = exp2anyreg(code, lines, kinds, values, pool, st, e);
     match answer {
@@ -231,7 +224,7 @@ fn concat_registers(
     b: ExprContext,
     c: ExprContext,
 ) -> Described
-    ensures { λ r. ⌜ ((ks vs p : List ℕ) → concat-word b c st (bufs (now (code .entry)) (now (lines .entry)) ks vs p) ≡ describedIs r (bufs (now (code .exit)) (now (lines .exit)) ks vs p)) ⌝ }
+    ensures { λ r. ⌜ Describes-words (concat-word b c) st r code lines ⌝ }
 {
     let s = free_expr(free_expr(st, c), b);
     emit_relocable(code, lines, s, OpCode::Concat, b.info, c.info, b)
@@ -248,7 +241,7 @@ fn concat_onto(
     e1: ExprContext,
     c: ExprContext,
 ) -> Described
-    ensures { λ r. ⌜ concat-left e1 c st (bufs (now (code .entry)) (now (lines .entry)) (now (kinds .entry)) (now (values .entry)) (now (pool .entry))) ≡ describedIs r (bufs (now (code .exit)) (now (lines .exit)) (now (kinds .exit)) (now (values .exit)) (now (pool .exit))) ⌝ }
+    ensures { λ r. ⌜ Describes (concat-left e1 c) st r code lines kinds values pool ⌝ }
 {
     let answer = exp2anyreg(code, lines, kinds, values, pool, st, e1);
     match answer {
@@ -268,7 +261,7 @@ pub fn code_concat(
     e1: ExprContext,
     e2: ExprContext,
 ) -> Described
-    ensures { λ r. ⌜ code-concat e1 e2 st (bufs (now (code .entry)) (now (lines .entry)) (now (kinds .entry)) (now (values .entry)) (now (pool .entry))) ≡ describedIs r (bufs (now (code .exit)) (now (lines .exit)) (now (kinds .exit)) (now (values .exit)) (now (pool .exit))) ⌝ }
+    ensures { λ r. ⌜ Describes (code-concat e1 e2) st r code lines kinds values pool ⌝ }
 {
     let answer = exp2nextreg(code, lines, kinds, values, pool, st, e2);
     match answer {
@@ -291,7 +284,7 @@ fn is_far(found: Found, count: usize) -> bool
 
 // A numeral that is listed above 255, or unlisted with 256 entries or more (difference 2).
 pub fn far_numeral(kinds: &[u8], values: &[u64], st: State, e: ExprContext) -> bool
-    ensures { λ r. ⌜ ((cs ls p : List ℕ) → far-numeral e st (bufs cs ls (now (kinds .entry)) (now (values .entry)) p) ≡ done r st (bufs cs ls (now (kinds .exit)) (now (values .exit)) p)) ⌝ }
+    ensures { λ r. ⌜ Answers-values (far-numeral e) st (done r st) kinds values ⌝ }
 {
     if is_numeral(e) {
         let table = st.table;
@@ -343,7 +336,7 @@ fn emit_comp(
     b: ExprContext,
     c: ExprContext,
 ) -> Described
-    ensures { λ r. ⌜ ((ks vs p : List ℕ) → emit-comp op cond swapped b c st (bufs (now (code .entry)) (now (lines .entry)) ks vs p) ≡ describedIs r (bufs (now (code .exit)) (now (lines .exit)) ks vs p)) ⌝ }
+    ensures { λ r. ⌜ Describes-words (emit-comp op cond swapped b c) st r code lines ⌝ }
 {
     let s = free_both(st, b, c);
     let x = rk(b);
@@ -375,7 +368,7 @@ fn compare_with(
     x: ExprContext,
     second: ExprContext,
 ) -> Described
-    ensures { λ r. ⌜ comp-second op cond swapped far x second st (bufs (now (code .entry)) (now (lines .entry)) (now (kinds .entry)) (now (values .entry)) (now (pool .entry))) ≡ describedIs r (bufs (now (code .exit)) (now (lines .exit)) (now (kinds .exit)) (now (values .exit)) (now (pool .exit))) ⌝ }
+    ensures { λ r. ⌜ Describes (comp-second op cond swapped far x second) st r code lines kinds values pool ⌝ }
 {
     let answer = exp2rk(code, lines, kinds, values, pool, st, second);
     match answer {
@@ -407,7 +400,7 @@ pub fn code_comp(
     e1: ExprContext,
     e2: ExprContext,
 ) -> Described
-    ensures { λ r. ⌜ code-comp op cond swapped e1 e2 st (bufs (now (code .entry)) (now (lines .entry)) (now (kinds .entry)) (now (values .entry)) (now (pool .entry))) ≡ describedIs r (bufs (now (code .exit)) (now (lines .exit)) (now (kinds .exit)) (now (values .exit)) (now (pool .exit))) ⌝ }
+    ensures { λ r. ⌜ Describes (code-comp op cond swapped e1 e2) st r code lines kinds values pool ⌝ }
 {
     let far = far_numeral(kinds, values, st, e1);
     let first = choose(far, e1, e2);
@@ -444,7 +437,7 @@ fn operand(
     st: State,
     e: ExprContext,
 ) -> Described
-    ensures { λ r. ⌜ operandOf e st (bufs (now (code .entry)) (now (lines .entry)) (now (kinds .entry)) (now (values .entry)) (now (pool .entry))) ≡ describedIs r (bufs (now (code .exit)) (now (lines .exit)) (now (kinds .exit)) (now (values .exit)) (now (pool .exit))) ⌝ }
+    ensures { λ r. ⌜ Describes (operandOf e) st r code lines kinds values pool ⌝ }
 {
     if is_numeral(e) {
         return Described::Done(st, e);
@@ -462,7 +455,7 @@ pub fn infix(
     op: BinOp,
     e: ExprContext,
 ) -> Described
-    ensures { λ r. ⌜ before-right op e st (bufs (now (code .entry)) (now (lines .entry)) (now (kinds .entry)) (now (values .entry)) (now (pool .entry))) ≡ describedIs r (bufs (now (code .exit)) (now (lines .exit)) (now (kinds .exit)) (now (values .exit)) (now (pool .exit))) ⌝ }
+    ensures { λ r. ⌜ Describes (before-right op e) st r code lines kinds values pool ⌝ }
 {
     let f = operation_of(op);
     match f {
@@ -481,7 +474,7 @@ fn code_and(
     e1: ExprContext,
     e2: ExprContext,
 ) -> Described
-    ensures { λ r. ⌜ ((ks vs p : List ℕ) → code-and e1 e2 st (bufs (now (code .entry)) (now (lines .entry)) ks vs p) ≡ describedIs r (bufs (now (code .exit)) (now (lines .exit)) ks vs p)) ⌝ }
+    ensures { λ r. ⌜ Describes-words (code-and e1 e2) st r code lines ⌝ }
 {
     let answer = discharge_vars(code, lines, st, e2);
     match answer {
@@ -500,7 +493,7 @@ fn code_or(
     e1: ExprContext,
     e2: ExprContext,
 ) -> Described
-    ensures { λ r. ⌜ ((ks vs p : List ℕ) → code-or e1 e2 st (bufs (now (code .entry)) (now (lines .entry)) ks vs p) ≡ describedIs r (bufs (now (code .exit)) (now (lines .exit)) ks vs p)) ⌝ }
+    ensures { λ r. ⌜ Describes-words (code-or e1 e2) st r code lines ⌝ }
 {
     let answer = discharge_vars(code, lines, st, e2);
     match answer {
@@ -523,7 +516,7 @@ fn concat_value(
     e1: ExprContext,
     e2: ExprContext,
 ) -> Described
-    ensures { λ r. ⌜ joined-to e1 e2 st (bufs (now (code .entry)) (now (lines .entry)) (now (kinds .entry)) (now (values .entry)) (now (pool .entry))) ≡ describedIs r (bufs (now (code .exit)) (now (lines .exit)) (now (kinds .exit)) (now (values .exit)) (now (pool .exit))) ⌝ }
+    ensures { λ r. ⌜ Describes (joined-to e1 e2) st r code lines kinds values pool ⌝ }
 {
     if is_relocable(code, e2, OpCode::Concat) {
         set_b_at(code, e2.info, (e1.info % B_SIZE) as u32);
@@ -549,7 +542,7 @@ fn join_concat(
     e1: ExprContext,
     e2: ExprContext,
 ) -> Described
-    ensures { λ r. ⌜ join-concat e1 e2 st (bufs (now (code .entry)) (now (lines .entry)) (now (kinds .entry)) (now (values .entry)) (now (pool .entry))) ≡ describedIs r (bufs (now (code .exit)) (now (lines .exit)) (now (kinds .exit)) (now (values .exit)) (now (pool .exit))) ⌝ }
+    ensures { λ r. ⌜ Describes (join-concat e1 e2) st r code lines kinds values pool ⌝ }
 {
     let answer = exp2val(code, lines, kinds, values, pool, st, e2);
     match answer {
@@ -569,7 +562,7 @@ pub fn postfix(
     e1: ExprContext,
     e2: ExprContext,
 ) -> Described
-    ensures { λ r. ⌜ after-right op e1 e2 st (bufs (now (code .entry)) (now (lines .entry)) (now (kinds .entry)) (now (values .entry)) (now (pool .entry))) ≡ describedIs r (bufs (now (code .exit)) (now (lines .exit)) (now (kinds .exit)) (now (values .exit)) (now (pool .exit))) ⌝ }
+    ensures { λ r. ⌜ Describes (after-right op e1 e2) st r code lines kinds values pool ⌝ }
 {
     let f = operation_of(op);
     match f {
@@ -639,7 +632,7 @@ pub fn prefix(
     op: UnOp,
     e: ExprContext,
 ) -> Described
-    ensures { λ r. ⌜ code-unop op e st (bufs (now (code .entry)) (now (lines .entry)) (now (kinds .entry)) (now (values .entry)) (now (pool .entry))) ≡ describedIs r (bufs (now (code .exit)) (now (lines .exit)) (now (kinds .exit)) (now (values .exit)) (now (pool .exit))) ⌝ }
+    ensures { λ r. ⌜ Describes (code-unop op e) st r code lines kinds values pool ⌝ }
 {
     if is_not(op) {
         return code_not(code, lines, kinds, values, pool, st, e);

@@ -65,35 +65,37 @@ returns c =
 same-length-6 : tie.Need-same-length-6
 same-length-6 c =
     let p10 = c .before .before .before .before .before .before .before .before .before .before in
-    let p43 = p10 .before .before .before .before .before .before .before .before .before .before .before .before .before .before .before .before .before .before .before .before .before .before .before .before .before .before .before .before .before .before .before .before .before in
-    omega (arith, (p43 .exp2anyreg .kept), (p10 .code-self .kept))
+    let p26 = p10 .before .before .before .before .before .before .before .before .before .before .before .before .before .before .before .before in
+    let p43 = p26 .before .before .before .before .before .before .before .before .before .before .before .before .before .before .before .before .before in
+    omega (arith, (p10 .code-self .kept), (p26 .string-constant .kept), (p43 .exp2anyreg .kept))
 
 same-length-7 : tie.Need-same-length-7
 same-length-7 c =
     let p10 = c .before .before .before .before .before .before .before .before .before .before in
-    let p43 = p10 .before .before .before .before .before .before .before .before .before .before .before .before .before .before .before .before .before .before .before .before .before .before .before .before .before .before .before .before .before .before .before .before .before in
-    omega (arith, (p43 .exp2anyreg .kept), (p10 .code-self .kept))
+    let p26 = p10 .before .before .before .before .before .before .before .before .before .before .before .before .before .before .before .before in
+    let p43 = p26 .before .before .before .before .before .before .before .before .before .before .before .before .before .before .before .before .before in
+    omega (arith, (p10 .code-self .kept), (p26 .string-constant .kept), (p43 .exp2anyreg .kept))
 
 same-length-8 : tie.Need-same-length-8
 same-length-8 c =
     let p10 = c .before .before .before .before .before .before .before .before .before .before in
     let p26 = p10 .before .before .before .before .before .before .before .before .before .before .before .before .before .before .before .before in
     let p43 = p26 .before .before .before .before .before .before .before .before .before .before .before .before .before .before .before .before .before in
-    omega (arith, (p43 .exp2anyreg .kept), (p26 .string-constant .kept), (p10 .code-self .kept))
+    omega (arith, (p10 .code-self .kept), (p26 .string-constant .kept), (p43 .exp2anyreg .kept))
 
 same-length-9 : tie.Need-same-length-9
 same-length-9 c =
     let p10 = c .before .before .before .before .before .before .before .before .before .before in
     let p26 = p10 .before .before .before .before .before .before .before .before .before .before .before .before .before .before .before .before in
     let p43 = p26 .before .before .before .before .before .before .before .before .before .before .before .before .before .before .before .before .before in
-    omega (arith, (p43 .exp2anyreg .kept), (p26 .string-constant .kept), (p10 .code-self .kept))
+    omega (arith, (p10 .code-self .kept), (p26 .string-constant .kept), (p43 .exp2anyreg .kept))
 
 same-length-10 : tie.Need-same-length-10
 same-length-10 c =
     let p10 = c .before .before .before .before .before .before .before .before .before .before in
     let p26 = p10 .before .before .before .before .before .before .before .before .before .before .before .before .before .before .before .before in
     let p43 = p26 .before .before .before .before .before .before .before .before .before .before .before .before .before .before .before .before .before in
-    omega (arith, (p43 .exp2anyreg .kept), (p26 .string-constant .kept), (p10 .code-self .kept))
+    omega (arith, (p10 .code-self .kept), (p26 .string-constant .kept), (p43 .exp2anyreg .kept))
 
 returns-2 : tie.Need-returns-2
 returns-2 c =
@@ -110,7 +112,7 @@ same-length-11 : tie.Need-same-length-11
 same-length-11 c =
     let p9 = c .before .before .before .before .before .before .before .before .before in
     let p26 = p9 .before .before .before .before .before .before .before .before .before .before .before .before .before .before .before .before .before in
-    omega (arith, (p26 .exp2anyreg .kept), (p9 .string-constant .kept))
+    omega (arith, (p9 .string-constant .kept), (p26 .exp2anyreg .kept))
 
 same-length-12 : tie.Need-same-length-12
 same-length-12 c = search needs

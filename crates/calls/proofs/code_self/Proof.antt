@@ -23,7 +23,7 @@ same-length : tie.Need-same-length
 same-length c =
     let p10 = c .before .before .before .before .before .before .before .before .before .before in
     let p29 = p10 .before .before .before .before .before .before .before .before .before .before .before .before .before .before .before .before .before .before .before in
-    omega (arith, (p29 .exp2anyreg .kept), (p10 .self-key .kept))
+    omega (arith, (p10 .self-key .kept), (p29 .exp2anyreg .kept))
 
 same-length-2 : tie.Need-same-length-2
 same-length-2 c = search needs

@@ -29,16 +29,10 @@ emit-test-requires : tie.Need-emit-test-requires
 emit-test-requires c κs = search needs
 
 same-length : tie.Need-same-length
-same-length c =
-    let p4 = c .before .before .before .before in
-    let p13 = p4 .before .before .before .before .before .before .before .before .before in
-    omega (arith, (p4 .emit-test .kept), (p13 .pop .kept))
+same-length c = search needs
 
 same-length-2 : tie.Need-same-length-2
-same-length-2 c =
-    let p4 = c .before .before .before .before in
-    let p13 = p4 .before .before .before .before .before .before .before .before .before in
-    omega (arith, (p4 .emit-test .kept), (p13 .pop .kept))
+same-length-2 c = search needs
 
 returns : tie.Need-returns
 returns c =
@@ -88,16 +82,10 @@ same-length-5 c =
     omega (arith, (p4 .emit-test2 .kept), (p22 .discharge2anyreg .kept))
 
 same-length-6 : tie.Need-same-length-6
-same-length-6 c =
-    let p4 = c .before .before .before .before in
-    let p22 = p4 .before .before .before .before .before .before .before .before .before .before .before .before .before .before .before .before .before .before in
-    omega (arith, (p4 .emit-test2 .kept), (p22 .discharge2anyreg .kept))
+same-length-6 c = search needs
 
 same-length-7 : tie.Need-same-length-7
-same-length-7 c =
-    let p4 = c .before .before .before .before in
-    let p22 = p4 .before .before .before .before .before .before .before .before .before .before .before .before .before .before .before .before .before .before in
-    omega (arith, (p4 .emit-test2 .kept), (p22 .discharge2anyreg .kept))
+same-length-7 c = search needs
 
 returns-2 : tie.Need-returns-2
 returns-2 c =
@@ -111,29 +99,19 @@ returns-2 c =
     cond-else _ _ _ _ ((p29 .is-relocable .ensures) ∙ (p28 .if1 .left)) (described-told (p22 .discharge2anyreg .result) _ (p22 .discharge2anyreg .ensures) (p10 .answer .given .1)) ((p6 .free-expr .ensures) _) (p5 .bit2 .ensures) ((p4 .emit-test2 .ensures) _ _ _)
 
 same-length-8 : tie.Need-same-length-8
-same-length-8 c =
-    let p13 = c .before .before .before .before .before .before .before .before .before .before .before .before .before in
-    omega (arith, (p13 .discharge2anyreg .kept))
+same-length-8 c = search needs
 
 same-length-9 : tie.Need-same-length-9
-same-length-9 c =
-    let p13 = c .before .before .before .before .before .before .before .before .before .before .before .before .before in
-    omega (arith, (p13 .discharge2anyreg .kept))
+same-length-9 c = search needs
 
 same-length-10 : tie.Need-same-length-10
-same-length-10 c =
-    let p13 = c .before .before .before .before .before .before .before .before .before .before .before .before .before in
-    omega (arith, (p13 .discharge2anyreg .kept))
+same-length-10 c = search needs
 
 same-length-11 : tie.Need-same-length-11
-same-length-11 c =
-    let p13 = c .before .before .before .before .before .before .before .before .before .before .before .before .before in
-    omega (arith, (p13 .discharge2anyreg .kept))
+same-length-11 c = search needs
 
 same-length-12 : tie.Need-same-length-12
-same-length-12 c =
-    let p13 = c .before .before .before .before .before .before .before .before .before .before .before .before .before in
-    omega (arith, (p13 .discharge2anyreg .kept))
+same-length-12 c = search needs
 
 returns-3 : tie.Need-returns-3
 returns-3 c =

@@ -1,5 +1,4 @@
 -- `conditions::negate` meets its contract, by its kinds (specs/Laws.antt). Assumes nothing.
-use native.Mathlib.Omega.{arith}
 use mathlib.Core.Path.{_∙_}
 use Rattle.conditions.specs.Laws.{negate-false, negate-true, negate-inverts, negate-emits, negate-else}
 use borrow.Author.Needs.{needs}
@@ -31,7 +30,7 @@ invertjump-requires : tie.Need-invertjump-requires
 invertjump-requires c κs = search needs
 
 same-length : tie.Need-same-length
-same-length c = omega (arith, (c .before .before .invertjump .kept))
+same-length c = search needs
 
 returns-3 : tie.Need-returns-3
 returns-3 c =
@@ -46,29 +45,19 @@ emit-not-requires : tie.Need-emit-not-requires
 emit-not-requires c κs = search needs
 
 same-length-2 : tie.Need-same-length-2
-same-length-2 c =
-    let p10 = c .before .before .before .before .before .before .before .before .before .before in
-    omega (arith, (p10 .emit-not .kept))
+same-length-2 c = search needs
 
 same-length-3 : tie.Need-same-length-3
-same-length-3 c =
-    let p10 = c .before .before .before .before .before .before .before .before .before .before in
-    omega (arith, (p10 .emit-not .kept))
+same-length-3 c = search needs
 
 same-length-4 : tie.Need-same-length-4
-same-length-4 c =
-    let p10 = c .before .before .before .before .before .before .before .before .before .before in
-    omega (arith, (p10 .emit-not .kept))
+same-length-4 c = search needs
 
 same-length-5 : tie.Need-same-length-5
-same-length-5 c =
-    let p10 = c .before .before .before .before .before .before .before .before .before .before in
-    omega (arith, (p10 .emit-not .kept))
+same-length-5 c = search needs
 
 same-length-6 : tie.Need-same-length-6
-same-length-6 c =
-    let p10 = c .before .before .before .before .before .before .before .before .before .before in
-    omega (arith, (p10 .emit-not .kept))
+same-length-6 c = search needs
 
 returns-4 : tie.Need-returns-4
 returns-4 c =

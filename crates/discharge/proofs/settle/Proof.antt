@@ -21,7 +21,8 @@ returns : tie.Need-returns
 returns c =
     let p4 = c .before .before .before .before in
     let p7 = p4 .before .before .before in
-    λ ks vs p. settle-loads _ _ _ _ ((p7 .before .lacks-value .ensures) ∙ (p7 .if1 .taken)) ∙ (p4 .load-both .ensures) ks vs p
+    let p8 = p7 .before in
+    λ ks vs p. settle-loads _ _ _ _ ((p8 .lacks-value .ensures) ∙ (p7 .if1 .taken)) ∙ (p4 .load-both .ensures) ks vs p
 
 land-requires : tie.Need-land-requires
 land-requires c κs = search needs
@@ -36,7 +37,8 @@ returns-2 : tie.Need-returns-2
 returns-2 c =
     let p3 = c .before .before .before in
     let p5 = p3 .before .before in
-    λ ks vs p. settle-none _ _ _ _ ((p5 .before .lacks-value .ensures) ∙ (p5 .if1 .left)) ((c .get-label .ensures) _) ((p3 .land .ensures) _ _ ks vs p)
+    let p6 = p5 .before in
+    λ ks vs p. settle-none _ _ _ _ ((p6 .lacks-value .ensures) ∙ (p5 .if1 .left)) ((c .get-label .ensures) _) ((p3 .land .ensures) _ _ ks vs p)
 
 pub settle-spec : {M : Type 1} → statement M
 settle-spec =

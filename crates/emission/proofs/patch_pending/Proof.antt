@@ -1,6 +1,6 @@
 -- `emission::patch_pending` meets its contract: a list of no jumps changes nothing, else by that of `patch_list_aux`. Assumes nothing.
-use borrow.Author.Needs.{needs}
 use Rattle.jumps.specs.Walk.{aux-end}
+use borrow.Author.Needs.{needs}
 use Rattle.emission.proofs.patch_pending.Statement.{statement}
 use Rattle.emission.proofs.patch_pending.Tie as tie
 

@@ -26,7 +26,8 @@ same-length-2 c = search needs
 returns : tie.Need-returns
 returns c =
     let p7 = c .before .before .before .before .before .before .before in
-    λ ks vs p. returning-done (p7 .before .before .before .before .before .before .args .h) _ _ (given-told ((p7 .emit-abc .result)) _ ((p7 .emit-abc .ensures) ks vs p) (c .before .answer .given .1))
+    let p13 = p7 .before .before .before .before .before .before in
+    λ ks vs p. returning-done (p13 .args .h) _ _ (given-told ((p7 .emit-abc .result)) _ ((p7 .emit-abc .ensures) ks vs p) (c .before .answer .given .1))
 
 same-length-3 : tie.Need-same-length-3
 same-length-3 c = search needs
@@ -37,7 +38,8 @@ same-length-4 c = search needs
 returns-2 : tie.Need-returns-2
 returns-2 c =
     let p7 = c .before .before .before .before .before .before .before in
-    λ ks vs p. returning-full (p7 .before .before .before .before .before .before .args .h) _ _ (given-told ((p7 .emit-abc .result)) _ ((p7 .emit-abc .ensures) ks vs p) (c .before .answer2 .given .1))
+    let p13 = p7 .before .before .before .before .before .before in
+    λ ks vs p. returning-full (p13 .args .h) _ _ (given-told ((p7 .emit-abc .result)) _ ((p7 .emit-abc .ensures) ks vs p) (c .before .answer2 .given .1))
 
 pub add-return-spec : {M : Type 1} → statement M
 add-return-spec =

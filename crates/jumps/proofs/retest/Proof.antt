@@ -31,8 +31,8 @@ set-a-requires c κs = search needs
 
 returns-3 : tie.Need-returns-3
 returns-3 c =
-    let p3 = c .before .before in
-    retest-other _ _ (λ e. (p3 .if1 .left) (e ∙ (p3 .before .b .ensures))) (c .before .if2 .left) ∙ (c .set-a .ensures)
+    let p3 = c .before .before .before in
+    retest-other _ _ (λ e. (c .before .before .if1 .left) (e ∙ (p3 .b .ensures))) (c .before .if2 .left) ∙ (c .set-a .ensures)
 
 pub retest-spec : {M : Type 1} → statement M
 retest-spec =

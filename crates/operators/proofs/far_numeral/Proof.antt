@@ -20,12 +20,14 @@ returns : tie.Need-returns
 returns c =
     let p3 = c .before .before .before in
     let p4 = p3 .before in
-    let a = p4 .before .before .before .args in
+    let p7 = p4 .before .before .before in
+    let a = (p7 .args) in
     λ cs ls p. far-is (a .e) (a .st) cs ls _ _ p ((p4 .is-numeral .ensures) ∙ (p3 .if1 .taken)) ((c .before .find-numeral .ensures) p [] (val.Num (a .e .nval) (a .e .bits)) refl) (c .is-far .ensures)
 
 returns-2 : tie.Need-returns-2
 returns-2 c =
-    let a = c .before .before .before .before .args in
+    let p4 = c .before .before .before .before in
+    let a = (p4 .args) in
     λ cs ls p. far-not (a .e) (a .st) cs ls _ _ p ((c .before .is-numeral .ensures) ∙ (c .if1 .left))
 
 pub far-numeral-spec : {M : Type 1} → statement M

@@ -41,7 +41,8 @@ returns : tie.Need-returns
 returns c =
     let p10 = c .before .before .before .before .before .before .before .before .before .before in
     let p16 = p10 .before .before .before .before .before .before in
-    unop-not _ _ _ _ ((p16 .before .is-not .ensures) ∙ (p16 .if1 .taken)) ∙ (p10 .code-not .ensures)
+    let p17 = p16 .before in
+    unop-not _ _ _ _ ((p17 .is-not .ensures) ∙ (p16 .if1 .taken)) ∙ (p10 .code-not .ensures)
 
 fold-unary-requires : tie.Need-fold-unary-requires
 fold-unary-requires c κs = search needs
@@ -63,10 +64,10 @@ code-unary-requires c κs = search needs
 
 returns-2 : tie.Need-returns-2
 returns-2 c =
-    let p2 = c .before .before in
-    let p4 = p2 .before .before in
+    let p4 = c .before .before .before .before in
     let p5 = p4 .before in
-    unop-folded _ _ _ _ ((p5 .before .is-not .ensures) ∙ (p5 .if1 .left)) ((p4 .fold-unary .ensures) ∙ (p2 .folded .given .1)) (c .with-number .ensures)
+    let p6 = p5 .before in
+    unop-folded _ _ _ _ ((p6 .is-not .ensures) ∙ (p5 .if1 .left)) ((p4 .fold-unary .ensures) ∙ (c .before .before .folded .given .1)) (c .with-number .ensures)
 
 same-length-6 : tie.Need-same-length-6
 same-length-6 c =
@@ -100,7 +101,8 @@ returns-3 c =
     let p17 = p11 .before .before .before .before .before .before in
     let p19 = p17 .before .before in
     let p20 = p19 .before in
-    unop-kept _ _ _ _ ((p20 .before .is-not .ensures) ∙ (p20 .if1 .left)) ((p19 .fold-unary .ensures) ∙ (p17 .enum-told .given .1)) (p11 .unary-op .ensures) ∙ (p10 .code-unary .ensures)
+    let p21 = p20 .before in
+    unop-kept _ _ _ _ ((p21 .is-not .ensures) ∙ (p20 .if1 .left)) ((p19 .fold-unary .ensures) ∙ (p17 .enum-told .given .1)) (p11 .unary-op .ensures) ∙ (p10 .code-unary .ensures)
 
 pub prefix-spec : {M : Type 1} → statement M
 prefix-spec =
