@@ -285,7 +285,7 @@ pub fn listed(chunks: &[Vec<u8>]) -> i32 {
     i32::from(t.mismatches > 0 || chunks.is_empty())
 }
 
-/// The unchanged Rust's pool of each chunk, in hex: what the program vectors_test is to print of it.
+/// The unchanged Rust's pool of each chunk, in hex: what the program replay_test is to print of it.
 pub fn pools(chunks: &[Vec<u8>]) -> i32 {
     for c in chunks {
         let Some(tree) = chunk::read(c) else { println!("unreadable"); continue };

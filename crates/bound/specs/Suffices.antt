@@ -1,11 +1,11 @@
 -- How much to lend: with 8n + 1 words and lines, n constants, a pool as long as the chunk and a scratch of n, for n nodes, up to 16,383 of them, a chunk that has the form is lowered or needs more than 250 registers; and n is at most half the chunk's length, which alone tells how much to lend up to 32,767 bytes.
--- From `bounded`, and from `padded`, by the number of the refusal.
+-- From `bounded`, and from `padded`, by the stage of the refusal.
 use Prim.Native.Nat.{ℕ, _+_, _*_, _/_, _≤_}
 use mathlib.Core.Path.{_≡_, refl, ap, _∙_, subst}
 use mathlib.Core.List.{List}
 use native.Mathlib.Omega.{arith}
 use lib.ListN.{length, length-map}
-use Rattle.refusals.specs.Number.{numberOf}
+use Rattle.refusals.specs.Stage.{stageOf, steps}
 use Rattle.refusals.specs.declared.Refusal.{Refusal}
 use Rattle.refusals.specs.declared.Refusal.the-variants as refusal
 use Rattle.chunk.specs.Ast.{Chunk, spansOf, placesOf}
@@ -29,26 +29,39 @@ pub record Suffices (z : Sizes) (chunk : List ℕ) (c : Chunk) : Type 0 where
 
 module _ (z : Sizes) (chunk : List ℕ) (c : Chunk) (form : formOf chunk ≡ formed c) (h : Suffices z chunk c) where
   -- no refusal of the form, nor of the scratch
-  late : (x : Refusal) → Due z chunk x → 10 ≤ numberOf x
+  late : (x : Refusal) → Due z chunk x → stageOf x ≡ steps
   late x (by-form e l) = absurd (let y : _≡_ {A = ℕ} 0 1 = cc in omega arith)
   late x (by-scratch c′ e l q) = let n : length (placesOf (spansOf (c′ .formulas))) ≡ nodes c = length-map (spansOf (c′ .formulas)) _ ∙ ap nodes (let y : c′ ≡ c = cc in y) in absurd (omega (arith, l, n, h .scratch))
   late x (by-lowering c′ e l n) = n
 
   -- 10 is what is left
-  only : (x : Refusal) → 10 ≤ numberOf x → Enough z chunk c x → x ≡ refusal.Registers
-  only refusal.TooLong l e = absurd (omega (arith, l))
-  only refusal.Missing l e = absurd (omega (arith, l))
-  only refusal.Map l e = absurd (omega (arith, l))
-  only refusal.Kind l e = absurd (omega (arith, l))
-  only refusal.Nesting l e = absurd (omega (arith, l))
-  only refusal.Locals l e = absurd (omega (arith, l))
-  only refusal.Varargs l e = absurd (omega (arith, l))
-  only refusal.Trailing l e = absurd (omega (arith, l))
-  only refusal.Scratch l e = absurd (omega (arith, l))
+  only : (x : Refusal) → stageOf x ≡ steps → Enough z chunk c x → x ≡ refusal.Registers
   only refusal.Registers l e = refl
   only refusal.Constants l e = absurd (e .constants (h .kinds) (h .values) (omega (arith, h .few)) refl)
   only refusal.Pool l e = absurd (e .text (h .pool) refl)
   only refusal.Words l e = absurd (e .words (h .code) (h .lines) (omega (arith, h .few)) refl)
+  only refusal.TooLong l e = cc
+  only refusal.Missing l e = cc
+  only refusal.Map l e = cc
+  only refusal.Kind l e = cc
+  only refusal.Nesting l e = cc
+  only refusal.Locals l e = cc
+  only refusal.Varargs l e = cc
+  only refusal.Trailing l e = cc
+  only refusal.Scratch l e = cc
+  only refusal.Syntax l e = cc
+  only refusal.Digits l e = cc
+  only refusal.Room l e = cc
+  only refusal.Recording l e = cc
+  only refusal.Ended l e = cc
+  only refusal.Step l e = cc
+  only refusal.Carried l e = cc
+  only refusal.Head l e = cc
+  only refusal.Layout l e = cc
+  only refusal.Page l e = cc
+  only refusal.Accepted l e = cc
+  only refusal.Ratio l e = cc
+  only refusal.Rule l e = cc
 
 pub suffices : (z : Sizes) (chunk : List ℕ) → Bytes chunk → (c : Chunk) → formOf chunk ≡ formed c → Suffices z chunk c → (x : Refusal) → lowered z chunk .answer ≡ answer.Refused x → x ≡ refusal.Registers
 suffices z chunk bytes c form h x e =

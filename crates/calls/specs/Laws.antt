@@ -12,12 +12,9 @@ use Rattle.refusals.specs.declared.Refusal.{Refusal}
 use Rattle.instructions.specs.Limits.{noReg}
 use Rattle.instructions.specs.Word.{setAOf, setBOf, setCOf, abcOf}
 use Rattle.opcodes.specs.declared.OpCode.the-variants as op
-use Rattle.cursor.specs.Fields.{bytesOf}
 use Rattle.cursor.specs.declared.Text.{Text}
 use Rattle.ast.specs.declared.Leaf.the-variants as leaf
 use Rattle.ast.specs.declared.Many.the-variants as many
-use Rattle.chunk.specs.Headers.{namesAt}
-use Rattle.chunk.specs.Form.{namesOf}
 use Rattle.chunk.specs.declared.header.Header.{Header}
 use Rattle.model.specs.declared.ExprKind.the-variants.{K, Local, Global, Indexed, NonReloc, Call, VarArg}
 use Rattle.model.specs.declared.ExprContext.{ExprContext}
@@ -28,7 +25,7 @@ use Rattle.model.specs.Descriptor.{newOf, with-kind, isKind}
 use Rattle.model.specs.Jumps.{word}
 use Rattle.model.specs.Emission.{with-free, emit-at, emit-abc, reserve-regs}
 use Rattle.model.specs.Discharge.{change-word, free-expr, exp2nextreg, exp2anyreg, exp2rk, rk}
-use Rattle.model.specs.Expressions.{search-local, set-multret, above, emit-call, closed-call, is-open, last-argument, set-indexed, code-self, string-constant, resolved, resolve-var, leaf-expr, callee}
+use Rattle.model.specs.Expressions.{set-multret, above, emit-call, closed-call, is-open, last-argument, set-indexed, code-self, string-constant, resolved, resolve-var, leaf-expr, callee, register-named}
 use Rattle.emission.specs.Laws.{branch, then-done, then-refused}
 use Rattle.calls.specs.Parts.{fresh-of, self-of, operand-of, key-of}
 
@@ -185,15 +182,12 @@ module _ (e key : ExprContext) (s : State) (m : Buffers) where
 
 module _ (chunk : List ℕ) (h : Header) (s : State) (m : Buffers) where
   module _ (t : Text) where
-    abbrev sought : Option ℕ
-    sought = search-local chunk (bytesOf chunk t) (namesOf (namesAt chunk (h .locals) (h .names))) 0
-
-    pub local-found : {i : ℕ} → sought ≡ some i → resolve-var chunk h t s m ≡ done (newOf Local i) s m
+    pub local-found : {i : ℕ} → register-named chunk h t ≡ some i → resolve-var chunk h t s m ≡ done (newOf Local i) s m
     unfolding resolve-var
     local-found q = ap (λ (o : Option ℕ). resolved chunk h t o s m) q
 
     module _ {x : Result ℕ} {r : Result ExprContext} (c : string-constant chunk h t s m ≡ x) where
-      pub global-found : sought ≡ none → andThen x (fresh-of Global) ≡ r → resolve-var chunk h t s m ≡ r
+      pub global-found : register-named chunk h t ≡ none → andThen x (fresh-of Global) ≡ r → resolve-var chunk h t s m ≡ r
       unfolding resolve-var
       global-found q z = ap (λ (o : Option ℕ). resolved chunk h t o s m) q ∙ ap (λ (y : Result ℕ). andThen y (fresh-of Global)) c ∙ z
 

@@ -2,9 +2,10 @@
 // A state and a descriptor go in by value and come back in the answer. Nothing is assumed of either.
 ghost use mathlib.Core.Path.{_≡_};
 ghost use Prim.Native.Nat.{_-_};
+ghost use Rattle.buffers.specs.Lent.{bytes};
 ghost use Rattle.chunk.specs.declared.header.Header.{Header};
 ghost use Rattle.model.specs.Steps.{Buffers, andThen, givenIs, describedIs};
-ghost use Rattle.model.specs.Contracts.{Describes, Describes-constants, Describes-words, Gives-constants, Steps-code, bytes};
+ghost use Rattle.model.specs.Contracts.{Describes, Describes-constants, Describes-words, Gives-constants, Steps-code};
 ghost use Rattle.model.specs.Expressions.{set-multret, above as aboveOf, emit-call, closed-call, is-open, last-argument, set-indexed, code-self, string-constant, resolve-var, leaf-expr, callee as calleeOf};
 ghost use Rattle.calls.specs.Parts.{fresh-of, self-of, operand-of, key-of};
 use ast::Leaf;

@@ -3,6 +3,7 @@
 ghost use mathlib.Core.Bool.{_&&_};
 ghost use mathlib.Core.Path.{_≡_};
 ghost use Prim.Native.Nat.{_-_};
+ghost use Rattle.buffers.specs.Lent.{old};
 ghost use Rattle.model.specs.declared.ExprKind.the-variants.{Relocable};
 ghost use Rattle.model.specs.declared.State.{State};
 ghost use Rattle.model.specs.Steps.{done};
@@ -82,7 +83,7 @@ pub fn invertjump(code: &mut [u32], e: ExprContext)
 
 // Whether the value is a word of this opcode that is still to get its register.
 pub fn is_relocable(code: &[u32], e: ExprContext, op: OpCode) -> bool
-    ensures { λ r. ⌜ (isKind Relocable e && isOp op (word (now (code .entry)) (e .info))) ≡ r ⌝ }
+    ensures { λ r. ⌜ (isKind Relocable e && isOp op (word (old code) (e .info))) ≡ r ⌝ }
 {
     if is_kind(e, ExprKind::Relocable) {
         let i = Instruction {

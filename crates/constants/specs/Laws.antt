@@ -4,7 +4,7 @@ use mathlib.Core.Path.{_≡_, refl, sym, ap, _∙_, subst}
 use mathlib.Core.Bool.{Bool, true, false, false≢true}
 use mathlib.Core.List.{List, [], _∷_}
 use mathlib.Core.Option.{Option, some, none}
-use Prim.Native.Nat.{ℕ, zero, suc, _+_, _<_, _≤_}
+use Prim.Native.Nat.{ℕ, zero, suc, _+_, _<_}
 use native.Mathlib.Omega.{arith}
 use lib.ListN.{length, getD}
 use lib.Dec.{eqb, leb}
@@ -15,7 +15,7 @@ use Rattle.constants.specs.declared.Val.the-variants as val
 use Rattle.constants.specs.declared.Table.{Table}
 use Rattle.constants.specs.declared.Added.{Added}
 use Rattle.constants.specs.declared.Added.the-variants as Added-variants
-use Rattle.refusals.specs.Number.{numberOf}
+use Rattle.refusals.specs.Stage.{stageOf, steps}
 use Rattle.refusals.specs.declared.Refusal.{Refusal}
 use Rattle.refusals.specs.declared.Refusal.the-variants.{Constants}
 use Rattle.constants.specs.declared.Found.{Found}
@@ -213,11 +213,11 @@ module _ (chunk : List ℕ) (t : Table) (v : Val) (ks ws pool : List ℕ) {f : F
 
 abbrev Late : Added → Type 0
 Late (Added-variants.At i b) = Unit {0}
-Late (Added-variants.Refused r) = 10 ≤ numberOf r
+Late (Added-variants.Refused r) = stageOf r ≡ steps
 
 late-text : (fits : Bool) (b : Table) (bytes ks ws pool : List ℕ) → Late (storedText fits b bytes ks ws pool .answer)
 late-text true b bytes ks ws pool = tt
-late-text false b bytes ks ws pool = omega arith
+late-text false b bytes ks ws pool = refl
 
 late-append : (chunk : List ℕ) (b : Table) (v : Val) (ks ws pool : List ℕ) → Late (append chunk b v ks ws pool .answer)
 unfolding append
@@ -227,13 +227,13 @@ late-append chunk b (val.Bool true) ks ws pool = tt
 late-append chunk b (val.Num x n) ks ws pool = tt
 late-append chunk b (val.Str s n) ks ws pool = late-text (leb (b .used + length (part chunk s n)) (length pool)) b (part chunk s n) ks ws pool
 
--- adding refuses with numbers above 9: 11 and 12, as `added` shows
-pub late-added : (chunk : List ℕ) (b : Table) (v : Val) (ks ws pool : List ℕ) (r : Refusal) → added chunk b v ks ws pool .answer ≡ Added-variants.Refused r → 10 ≤ numberOf r
+-- adding refuses as steps do: with 11 and 12, as `added` shows
+pub late-added : (chunk : List ℕ) (b : Table) (v : Val) (ks ws pool : List ℕ) (r : Refusal) → added chunk b v ks ws pool .answer ≡ Added-variants.Refused r → stageOf r ≡ steps
 unfolding added
 late-added chunk b v ks ws pool r e = subst Late e (go (find (holds pool chunk v) (b .count) ks ws) (full (b .count) ks ws))
   where
     go : (f : Found) (x : Bool) →
         Late (elim f as (λ (_ : Found). Out) [ At i ↦ out (Added-variants.At i b) ks ws pool | Nothing ↦ elim x as (λ (_ : Bool). Out) [ true ↦ out (Added-variants.Refused Constants) ks ws pool | false ↦ append chunk b v ks ws pool ] ] .answer)
     go (At i) x = tt
-    go Nothing true = omega arith
+    go Nothing true = refl
     go Nothing false = late-append chunk b v ks ws pool

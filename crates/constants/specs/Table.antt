@@ -51,13 +51,17 @@ abbrev pub storedText : Bool → Table → List ℕ → List ℕ → List ℕ �
 storedText true t bytes ks ws pool = stored t 4 (t .used % 281474976710656 * 65536 + length bytes % 65536) (length bytes) ks ws (sets pool (t .used) bytes)
 storedText false t bytes ks ws pool = out (Added-variants.Refused Pool) ks ws pool
 
+-- .. with the test
+abbrev pub withText : Table → List ℕ → List ℕ → List ℕ → List ℕ → Out
+withText t bytes ks ws pool = storedText (leb (t .used + length bytes) (length pool)) t bytes ks ws pool
+
 -- the new entry of a constant
 unfoldable pub append : List ℕ → Table → Val → List ℕ → List ℕ → List ℕ → Out
 append chunk t val.Nil ks ws pool = stored t 0 0 0 ks ws pool
 append chunk t (val.Bool false) ks ws pool = stored t 1 0 0 ks ws pool
 append chunk t (val.Bool true) ks ws pool = stored t 2 0 0 ks ws pool
 append chunk t (val.Num x b) ks ws pool = stored t 3 b 0 ks ws pool
-append chunk t (val.Str s n) ks ws pool = storedText (leb (t .used + length (part chunk s n)) (length pool)) t (part chunk s n) ks ws pool
+append chunk t (val.Str s n) ks ws pool = withText t (part chunk s n) ks ws pool
 
 -- `add_constant`, `string_constant`, `nil_constant`: the entry that there is, or a new one
 unfoldable pub added : List ℕ → Table → Val → List ℕ → List ℕ → List ℕ → Out

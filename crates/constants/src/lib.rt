@@ -6,15 +6,18 @@ ghost use Prim.Native.Nat.{ℕ, _+_, _*_, _/_, _%_, _≤_, _<_, min};
 ghost use lib.ListN.{length};
 ghost use lib.Seq.{sets};
 ghost use lib.Dec.{eqb, leb};
+ghost use Rattle.buffers.specs.Lent.{bytes, new, old};
 ghost use Rattle.instructions.specs.Limits.{maxConstants};
 ghost use Rattle.constants.specs.Entry.{truth, number, constantOf, kind-of, part as partOf, sameBytes, holds};
 ghost use Rattle.constants.specs.Fours.{fourOf, FourBytes, inFour, Without};
 ghost use Rattle.constants.specs.Texts.{isText, tailOf, endsAlike};
-ghost use Rattle.constants.specs.Table.{find as findIn, stored, storedText, append as appended, added, out};
+ghost use Rattle.constants.specs.Contracts.{Finds, Stores, Stores-values};
+ghost use Rattle.constants.specs.Table.{find as findIn, stored, withText, append as appended, added};
 use instructions::MAX_CONSTANTS;
 use refusals::Refusal;
 
-// A constant: nil, a truth value, a number (its double and its bits), or a text by its place in the chunk.
+// A constant: nil, a truth value, a number (its double and its bits), or a text by its place in the chunk. The double is there because document 01
+// asks for this form ("an enum of nil, truth, double, text place"); the table is searched and stored by the bits alone.
 pub enum Val {
     Nil,
     Bool(bool),
@@ -40,7 +43,7 @@ pub enum Added {
 
 // The part of a slice of `len` from `start`, as far as it goes.
 pub fn part(s: &[u8], start: usize, len: usize) -> &[u8]
-    ensures { λ r. ⌜ partOf (now (s .entry)) start len ≡ now r ⌝ }
+    ensures { λ r. ⌜ partOf (old s) start len ≡ now r ⌝ }
 {
     let n = s.len();
     if n < start {
@@ -62,7 +65,7 @@ fn wide(b: u8) -> u32
 // Four bytes as one number, so that they are compared in one step.
 fn four(s: &[u8], at: usize) -> u32
     requires { ⌜ at + 4 ≤ length (now s) ⌝ }
-    ensures { λ r. ⌜ (fourOf (now (s .entry)) at ≡ r) × FourBytes (now (s .entry)) at ⌝ }
+    ensures { λ r. ⌜ (fourOf (old s) at ≡ r) × FourBytes (old s) at ⌝ }
 {
     let a = wide(s[at]);
     let b = wide(s[at + 1]);
@@ -73,7 +76,7 @@ fn four(s: &[u8], at: usize) -> u32
 
 // From the end, where names made by counting differ, four bytes at a time and then the rest.
 pub fn same_bytes(a: &[u8], b: &[u8]) -> bool
-    ensures { λ r. ⌜ sameBytes (now (a .entry)) (now (b .entry)) ≡ r ⌝ }
+    ensures { λ r. ⌜ sameBytes (old a) (old b) ≡ r ⌝ }
 {
     if a.len() != b.len() {
         return false;
@@ -110,7 +113,7 @@ fn least(a: usize, b: usize) -> usize
 // Of the first `n` entries the first of this kind, whatever its value.
 fn find_kind(kinds: &[u8], n: usize, kind: u8) -> Found
     requires { ⌜ n ≤ length (now kinds) ⌝ }
-    ensures { λ r. ⌜ ((ws : List ℕ) → n ≤ length ws → findIn (λ k w. eqb k kind) n (now (kinds .entry)) ws ≡ r) ⌝ }
+    ensures { λ r. ⌜ ((ws : List ℕ) → n ≤ length ws → findIn (λ k w. eqb k kind) n (old kinds) ws ≡ r) ⌝ }
 {
     let mut at = 0;
     while at < n {
@@ -125,7 +128,7 @@ fn find_kind(kinds: &[u8], n: usize, kind: u8) -> Found
 // Whether one of four values is this.
 fn in_four(values: &[u64], at: usize, bits: u64) -> bool
     requires { ⌜ at + 4 ≤ length (now values) ⌝ }
-    ensures { λ r. ⌜ inFour (now (values .entry)) at bits ≡ r ⌝ }
+    ensures { λ r. ⌜ inFour (old values) at bits ≡ r ⌝ }
 {
     if values[at] == bits {
         return true;
@@ -142,7 +145,7 @@ fn in_four(values: &[u64], at: usize, bits: u64) -> bool
 // A place before which none of the values is this one, found four by four; how far on it lies the contract leaves free.
 fn past_fours(values: &[u64], n: usize, bits: u64) -> usize
     requires { ⌜ n ≤ length (now values) ⌝ }
-    ensures { λ r. ⌜ Without (now (values .entry)) r bits ⌝ }
+    ensures { λ r. ⌜ Without (old values) r bits ⌝ }
 {
     let mut i = 0;
     while 4 <= n - i {
@@ -157,7 +160,7 @@ fn past_fours(values: &[u64], n: usize, bits: u64) -> usize
 // Of the first `n` entries the first number of these bits: 0.0 and -0.0 are two constants, and a NaN is itself.
 fn find_bits(kinds: &[u8], values: &[u64], n: usize, bits: u64) -> Found
     requires { ⌜ (n ≤ length (now kinds)) × (n ≤ length (now values)) ⌝ }
-    ensures { λ r. ⌜ findIn (λ k w. eqb w bits && eqb k 3) n (now (kinds .entry)) (now (values .entry)) ≡ r ⌝ }
+    ensures { λ r. ⌜ Finds (λ k w. eqb w bits && eqb k 3) n r kinds values ⌝ }
 {
     let mut i = past_fours(values, n, bits);
     while i < n {
@@ -173,7 +176,7 @@ fn find_bits(kinds: &[u8], values: &[u64], n: usize, bits: u64) -> Found
 
 // Whether a text's entry of this value is `text`.
 fn is_text(value: u64, pool: &[u8], text: &[u8]) -> bool
-    ensures { λ r. ⌜ sameBytes (partOf (now (pool .entry)) (value / 65536) (value % 65536)) (now (text .entry)) ≡ r ⌝ }
+    ensures { λ r. ⌜ sameBytes (partOf (old pool) (value / 65536) (value % 65536)) (bytes text) ≡ r ⌝ }
 {
     let at = (value / 65536) as usize;
     let n = (value % 65536) as usize;
@@ -190,7 +193,7 @@ fn is_text(value: u64, pool: &[u8], text: &[u8]) -> bool
 
 // Whether the pool's last bytes are `text`.
 fn at_end(pool: &[u8], text: &[u8]) -> bool
-    ensures { λ r. ⌜ sameBytes (tailOf (length (now (text .entry))) (now (pool .entry))) (now (text .entry)) ≡ r ⌝ }
+    ensures { λ r. ⌜ sameBytes (tailOf (length (bytes text)) (old pool)) (bytes text) ≡ r ⌝ }
 {
     let n = text.len();
     let size = pool.len();
@@ -204,7 +207,7 @@ fn at_end(pool: &[u8], text: &[u8]) -> bool
 // Whether a text's entry of this value has this length and these last four bytes.
 fn ends_alike(value: u64, pool: &[u8], len: usize, last: u32) -> bool
     requires { ⌜ 4 ≤ len ⌝ }
-    ensures { λ r. ⌜ endsAlike (now (pool .entry)) len last value ≡ r ⌝ }
+    ensures { λ r. ⌜ endsAlike (old pool) len last value ≡ r ⌝ }
 {
     if (value % 65536) as usize != len {
         return false;
@@ -219,7 +222,7 @@ fn ends_alike(value: u64, pool: &[u8], len: usize, last: u32) -> bool
 // Of the first `n` entries the first that is `text`, each text compared.
 fn find_each(kinds: &[u8], values: &[u64], pool: &[u8], n: usize, text: &[u8]) -> Found
     requires { ⌜ (n ≤ length (now kinds)) × (n ≤ length (now values)) ⌝ }
-    ensures { λ r. ⌜ findIn (isText (now (pool .entry)) (now (text .entry))) n (now (kinds .entry)) (now (values .entry)) ≡ r ⌝ }
+    ensures { λ r. ⌜ Finds (isText (old pool) (bytes text)) n r kinds values ⌝ }
 {
     let mut i = 0;
     while i < n {
@@ -236,7 +239,7 @@ fn find_each(kinds: &[u8], values: &[u64], pool: &[u8], n: usize, text: &[u8]) -
 // The same, and only texts compared that end as `text` does. A text that the pool's end cuts off isn't as long as its entry says, so it would be passed over; none such is `text` where the pool's last bytes aren't.
 fn find_alike(kinds: &[u8], values: &[u64], pool: &[u8], n: usize, text: &[u8]) -> Found
     requires { ⌜ (n ≤ length (now kinds)) × (n ≤ length (now values)) × (4 ≤ length (now text)) × (sameBytes (tailOf (length (now text)) (now pool)) (now text) ≡ false) ⌝ }
-    ensures { λ r. ⌜ findIn (isText (now (pool .entry)) (now (text .entry))) n (now (kinds .entry)) (now (values .entry)) ≡ r ⌝ }
+    ensures { λ r. ⌜ Finds (isText (old pool) (bytes text)) n r kinds values ⌝ }
 {
     let len = text.len();
     let last = four(text, len - 4);
@@ -257,7 +260,7 @@ fn find_alike(kinds: &[u8], values: &[u64], pool: &[u8], n: usize, text: &[u8]) 
 // Of the first `n` entries the first that is `text`.
 fn find_text(kinds: &[u8], values: &[u64], pool: &[u8], n: usize, text: &[u8]) -> Found
     requires { ⌜ (n ≤ length (now kinds)) × (n ≤ length (now values)) ⌝ }
-    ensures { λ r. ⌜ findIn (isText (now (pool .entry)) (now (text .entry))) n (now (kinds .entry)) (now (values .entry)) ≡ r ⌝ }
+    ensures { λ r. ⌜ Finds (isText (old pool) (bytes text)) n r kinds values ⌝ }
 {
     if text.len() < 4 {
         return find_each(kinds, values, pool, n, text);
@@ -271,7 +274,7 @@ fn find_text(kinds: &[u8], values: &[u64], pool: &[u8], n: usize, text: &[u8]) -
 // The first of the first `count` entries that is the constant v. What stands at or above the count is never looked at.
 // A loop for each kind of constant, so that none asks at each entry what v is.
 pub fn find(kinds: &[u8], values: &[u64], pool: &[u8], chunk: &[u8], count: usize, v: Val) -> Found
-    ensures { λ r. ⌜ findIn (holds (now (pool .entry)) (now (chunk .entry)) v) count (now (kinds .entry)) (now (values .entry)) ≡ r ⌝ }
+    ensures { λ r. ⌜ Finds (holds (old pool) (bytes chunk) v) count r kinds values ⌝ }
 {
     let n = least(count, least(kinds.len(), values.len()));
     match v {
@@ -284,7 +287,7 @@ pub fn find(kinds: &[u8], values: &[u64], pool: &[u8], chunk: &[u8], count: usiz
 
 // The same for a number alone, which needs neither pool nor chunk. It stands apart so that `find` has a single call, which the compiler inlines.
 pub fn find_numeral(kinds: &[u8], values: &[u64], count: usize, bits: u64) -> Found
-    ensures { λ r. ⌜ ((pool chunk : List ℕ) (v : Val) → constantOf chunk v ≡ number bits → findIn (holds pool chunk v) count (now (kinds .entry)) (now (values .entry)) ≡ r) ⌝ }
+    ensures { λ r. ⌜ ((p c : List ℕ) (v : Val) → constantOf c v ≡ number bits → Finds (holds p c v) count r kinds values) ⌝ }
 {
     let n = least(count, least(kinds.len(), values.len()));
     find_bits(kinds, values, n, bits)
@@ -293,7 +296,7 @@ pub fn find_numeral(kinds: &[u8], values: &[u64], count: usize, bits: u64) -> Fo
 // Stores the bytes of `from` in `to` from `at` on.
 fn copy(to: &mut [u8], at: usize, from: &[u8])
     requires { ⌜ at + length (now from) ≤ length (now to) ⌝ }
-    ensures { λ _. ⌜ sets (now (to .entry)) at (now (from .entry)) ≡ now (to .exit) ⌝ }
+    ensures { λ _. ⌜ sets (old to) at (old from) ≡ new to ⌝ }
 {
     let mut done = 0;
     while done < from.len() {
@@ -345,7 +348,7 @@ fn store(
     n: usize,
 ) -> Added
     requires { ⌜ (table .count < length (now kinds)) × (table .count < length (now values)) × (table .used + n < 18446744073709551616) ⌝ }
-    ensures { λ r. ⌜ ((pool : List ℕ) → stored table kind value n (now (kinds .entry)) (now (values .entry)) pool ≡ out r (now (kinds .exit)) (now (values .exit)) pool) ⌝ }
+    ensures { λ r. ⌜ Stores-values (stored table kind value n) r kinds values ⌝ }
 {
     let count = table.count;
     let used = table.used;
@@ -369,7 +372,7 @@ fn store_text(
     text: &[u8],
 ) -> Added
     requires { ⌜ (table .count < length (now kinds)) × (table .count < length (now values)) ⌝ }
-    ensures { λ r. ⌜ storedText (leb (table .used + length (now (text .entry))) (length (now (pool .entry)))) table (now (text .entry)) (now (kinds .entry)) (now (values .entry)) (now (pool .entry)) ≡ out r (now (kinds .exit)) (now (values .exit)) (now (pool .exit)) ⌝ }
+    ensures { λ r. ⌜ Stores (withText table (bytes text)) r kinds values pool ⌝ }
 {
     let used = table.used;
     let n = text.len();
@@ -390,7 +393,7 @@ fn append(
     v: Val,
 ) -> Added
     requires { ⌜ (table .count < length (now kinds)) × (table .count < length (now values)) ⌝ }
-    ensures { λ r. ⌜ appended (now (chunk .entry)) table v (now (kinds .entry)) (now (values .entry)) (now (pool .entry)) ≡ out r (now (kinds .exit)) (now (values .exit)) (now (pool .exit)) ⌝ }
+    ensures { λ r. ⌜ Stores (appended (bytes chunk) table v) r kinds values pool ⌝ }
 {
     match v {
         Val::Nil => store(kinds, values, table, 0, 0, 0),
@@ -409,7 +412,7 @@ pub fn add_constant(
     table: Table,
     v: Val,
 ) -> Added
-    ensures { λ r. ⌜ added (now (chunk .entry)) table v (now (kinds .entry)) (now (values .entry)) (now (pool .entry)) ≡ out r (now (kinds .exit)) (now (values .exit)) (now (pool .exit)) ⌝ }
+    ensures { λ r. ⌜ Stores (added (bytes chunk) table v) r kinds values pool ⌝ }
 {
     let count = table.count;
     match find(kinds, values, pool, chunk, count, v) {

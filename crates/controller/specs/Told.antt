@@ -10,7 +10,8 @@ use Rattle.model.specs.declared.Lowered.{Lowered}
 use Rattle.model.specs.declared.Lowered.the-variants as answer
 use Rattle.model.specs.Steps.{Buffers}
 use Rattle.model.specs.Claims.{sizes, Padded, Faithful}
-use Rattle.model.specs.Contracts.{Lent, before, after}
+use Rattle.buffers.specs.Lent.{Lent}
+use Rattle.model.specs.Contracts.{before, after}
 use Rattle.model.specs.Lowering.{Sizes, Out, lowered}
 
 -- the answer, and what each lent buffer then holds, whole

@@ -1,8 +1,8 @@
 // The lowering for controllers: one function that C calls (include/fuchsiarasp.h).
 ghost use mathlib.Core.Path.{_≡_};
 ghost use lib.ListN.{length, set};
+ghost use Rattle.buffers.specs.Lent.{Rewrites, bytes, new, old};
 ghost use Rattle.buffers.specs.Pad.{pad};
-ghost use Rattle.model.specs.Contracts.{Rewrites, bytes};
 ghost use Rattle.controller.specs.Told.{numberFor, countsFor, Tells-lent};
 use buffers::clear_values;
 use lowering::lower;
@@ -10,7 +10,7 @@ use model::Lowered;
 
 // A count at index i, where the buffer reaches so far.
 fn put(counts: &mut [u64], i: usize, count: usize)
-    ensures { λ _. ⌜ set (now (counts .entry)) i count ≡ now (counts .exit) ⌝ }
+    ensures { λ _. ⌜ set (old counts) i count ≡ new counts ⌝ }
 {
     if i < counts.len() {
         counts[i] = count as u64;

@@ -1,7 +1,9 @@
 -- Discharging step by step: what a definition comes to once its first step's answer is known, as the code reads it. Assumes nothing.
+use types.Run.{OneOf, miss}
+use denote.Enum.Declared.{tagOf}
 use Prim.Native.Nat.{ℕ, _≤_, _<_}
 use mathlib.Core.Bool.{Bool, true, false, not, _||_, true≢false}
-use mathlib.Core.List.{List, []}
+use mathlib.Core.List.{List, [], _∷_}
 use mathlib.Core.Path.{_≡_, refl, ap, _∙_}
 use lib.Dec.{leb}
 use lib.ListN.{length, set}
@@ -22,6 +24,7 @@ use Rattle.model.specs.Descriptor.{with-kind, with-jumps, has-jumps, isKind}
 use Rattle.model.specs.Jumps.{word, concat-jumps, linked, jump-list, need-value, patch-list-aux}
 use Rattle.model.specs.Emission.{concat, emit-jump, code-label, patch-to-here, get-label, emit-abc, emit-abx, emit-nil, alloc-reg, free-reg, add-constant}
 use Rattle.model.specs.Discharge.{discharge-kind, discharge-vars, free-expr, number-constant, load-kind, move, discharge2reg, discharge2anyreg, land, load-both, settle, join-jump, exp2reg, exp2nextreg, exp2anyreg, exp2val, small, near, rk-kind, exp2rk}
+use Rattle.model.proofs.ExprKind.{the-type}
 use Rattle.emission.specs.Laws.{branch}
 use Rattle.discharge.specs.Kinds.{kind-is, put, give, over-of, load-yes, load-no, placed, next-of, any-of, constant-of}
 
@@ -64,36 +67,37 @@ module _ (e : ExprContext) (s : State) (code ls ks vs p : List ℕ) where
   vararg-is h = simp (discharge-kind, h)
 
 -- of a known kind
-pub of-kind : (k : ExprKind) (e : ExprContext) (s : State) (m : Buffers) {r : Result ExprContext} → isKind k e ≡ true → discharge-kind k e s m ≡ r → discharge-kind (e .kind) e s m ≡ r
-of-kind k e s m h q = ap (λ (x : ExprKind). discharge-kind x e s m) (kind-is k e h) ∙ q
+pub of-kind : {k : ExprKind} (e : ExprContext) (s : State) (m : Buffers) {r : Result ExprContext} → e .kind ≡ k → discharge-kind k e s m ≡ r → discharge-kind (e .kind) e s m ≡ r
+of-kind e s m h q = ap (λ (x : ExprKind). discharge-kind x e s m) h ∙ q
 
 pub local-is : (e : ExprContext) (s : State) (m : Buffers) → discharge-kind Local e s m ≡ done (with-kind NonReloc (e .info) e) s m
 unfolding discharge-kind
 local-is e s m = refl
 
--- a value stays as it is
-pub value-is : (k : ExprKind) (e : ExprContext) (s : State) (m : Buffers) → e .kind ≡ k →
-    isKind Local e ≡ false → isKind Global e ≡ false → isKind Indexed e ≡ false → isKind Call e ≡ false → isKind VarArg e ≡ false →
-    discharge-kind k e s m ≡ done e s m
+-- the kinds that `discharge_vars` names no word for: a value stays as it is
+abbrev value-tags : List ℕ
+value-tags = 0 ∷ 1 ∷ 2 ∷ 3 ∷ 4 ∷ 8 ∷ 9 ∷ 10 ∷ []
+
+pub value-is : (k : ExprKind) (e : ExprContext) (s : State) (m : Buffers) → OneOf value-tags (tagOf the-type k) → discharge-kind k e s m ≡ done e s m
 unfolding discharge-kind
-value-is Nil e s m q a b c d f = refl
-value-is True e s m q a b c d f = refl
-value-is False e s m q a b c d f = refl
-value-is K e s m q a b c d f = refl
-value-is KNum e s m q a b c d f = refl
-value-is Local e s m q a b c d f = absurd (true≢false (rw q at a))
-value-is Global e s m q a b c d f = absurd (true≢false (rw q at b))
-value-is Indexed e s m q a b c d f = absurd (true≢false (rw q at c))
-value-is Jmp e s m q a b c d f = refl
-value-is Relocable e s m q a b c d f = refl
-value-is NonReloc e s m q a b c d f = refl
-value-is Call e s m q a b c d f = absurd (true≢false (rw q at d))
-value-is VarArg e s m q a b c d f = absurd (true≢false (rw q at f))
+value-is Nil e s m h = refl
+value-is True e s m h = refl
+value-is False e s m h = refl
+value-is K e s m h = refl
+value-is KNum e s m h = refl
+value-is Local e s m h = absurd (miss value-tags (tagOf the-type Local) tt h)
+value-is Global e s m h = absurd (miss value-tags (tagOf the-type Global) tt h)
+value-is Indexed e s m h = absurd (miss value-tags (tagOf the-type Indexed) tt h)
+value-is Jmp e s m h = refl
+value-is Relocable e s m h = refl
+value-is NonReloc e s m h = refl
+value-is Call e s m h = absurd (miss value-tags (tagOf the-type Call) tt h)
+value-is VarArg e s m h = absurd (miss value-tags (tagOf the-type VarArg) tt h)
 
 -- ---- to a register
 
-pub load-of : (k : ExprKind) (e : ExprContext) (reg : ℕ) (s : State) (m : Buffers) {r : Result ExprContext} → isKind k e ≡ true → load-kind k e reg s m ≡ r → load-kind (e .kind) e reg s m ≡ r
-load-of k e reg s m h q = ap (λ (x : ExprKind). load-kind x e reg s m) (kind-is k e h) ∙ q
+pub load-of : {k : ExprKind} (e : ExprContext) (reg : ℕ) (s : State) (m : Buffers) {r : Result ExprContext} → e .kind ≡ k → load-kind k e reg s m ≡ r → load-kind (e .kind) e reg s m ≡ r
+load-of e reg s m h q = ap (λ (x : ExprKind). load-kind x e reg s m) h ∙ q
 
 module _ (e : ExprContext) (reg : ℕ) (s : State) (m : Buffers) where
   pub nil-loaded : {t : State} {k : Buffers} → emit-nil reg s m ≡ done tt t k → load-kind Nil e reg s m ≡ done (with-kind NonReloc reg e) t k
@@ -156,23 +160,24 @@ unfolding load-kind andThen
 relocated e reg s code ls ks vs p h = simp (load-kind, h)
 
 -- nothing to load
-pub unloaded : (k : ExprKind) (e : ExprContext) (reg : ℕ) (s : State) (m : Buffers) → e .kind ≡ k →
-    isKind Nil e ≡ false → isKind True e ≡ false → isKind False e ≡ false → isKind K e ≡ false → isKind KNum e ≡ false → isKind Relocable e ≡ false → isKind NonReloc e ≡ false →
-    load-kind k e reg s m ≡ done e s m
+abbrev unloaded-tags : List ℕ
+unloaded-tags = 5 ∷ 6 ∷ 7 ∷ 8 ∷ 11 ∷ 12 ∷ []
+
+pub unloaded : (k : ExprKind) (e : ExprContext) (reg : ℕ) (s : State) (m : Buffers) → OneOf unloaded-tags (tagOf the-type k) → load-kind k e reg s m ≡ done e s m
 unfolding load-kind
-unloaded Nil e reg s m q a b c d f g h = absurd (true≢false (rw q at a))
-unloaded True e reg s m q a b c d f g h = absurd (true≢false (rw q at b))
-unloaded False e reg s m q a b c d f g h = absurd (true≢false (rw q at c))
-unloaded K e reg s m q a b c d f g h = absurd (true≢false (rw q at d))
-unloaded KNum e reg s m q a b c d f g h = absurd (true≢false (rw q at f))
-unloaded Local e reg s m q a b c d f g h = refl
-unloaded Global e reg s m q a b c d f g h = refl
-unloaded Indexed e reg s m q a b c d f g h = refl
-unloaded Jmp e reg s m q a b c d f g h = refl
-unloaded Relocable e reg s m q a b c d f g h = absurd (true≢false (rw q at g))
-unloaded NonReloc e reg s m q a b c d f g h = absurd (true≢false (rw q at h))
-unloaded Call e reg s m q a b c d f g h = refl
-unloaded VarArg e reg s m q a b c d f g h = refl
+unloaded Nil e reg s m h = absurd (miss unloaded-tags (tagOf the-type Nil) tt h)
+unloaded True e reg s m h = absurd (miss unloaded-tags (tagOf the-type True) tt h)
+unloaded False e reg s m h = absurd (miss unloaded-tags (tagOf the-type False) tt h)
+unloaded K e reg s m h = absurd (miss unloaded-tags (tagOf the-type K) tt h)
+unloaded KNum e reg s m h = absurd (miss unloaded-tags (tagOf the-type KNum) tt h)
+unloaded Local e reg s m h = refl
+unloaded Global e reg s m h = refl
+unloaded Indexed e reg s m h = refl
+unloaded Jmp e reg s m h = refl
+unloaded Relocable e reg s m h = absurd (miss unloaded-tags (tagOf the-type Relocable) tt h)
+unloaded NonReloc e reg s m h = absurd (miss unloaded-tags (tagOf the-type NonReloc) tt h)
+unloaded Call e reg s m h = refl
+unloaded VarArg e reg s m h = refl
 
 module _ (e : ExprContext) (s : State) (m : Buffers) where
   pub any-reg-has : isKind NonReloc e ≡ true → discharge2anyreg e s m ≡ done e s m

@@ -8,15 +8,18 @@ use Rattle.model.specs.declared.ExprContext.{ExprContext}
 use Rattle.model.specs.declared.State.{State}
 use Rattle.model.specs.declared.Described.{Described}
 use Rattle.model.specs.Steps.{Buffers, Result, done, refused, Step, andThen, return}
-use Rattle.model.specs.Contracts.{Lent, Answers-constants, Describes, Describes-words}
+use Rattle.buffers.specs.Lent.{Lent}
+use Rattle.model.specs.Contracts.{Answers-constants, Describes, Describes-words}
 use Rattle.model.specs.Descriptor.{with-kind, has-jumps}
 use Rattle.model.specs.Discharge.{discharge-vars, load-kind, discharge2reg, exp2reg, exp2nextreg, exp2anyreg, exp2val, exp2rk}
+use Rattle.discharge.specs.declared.Brought.{Brought}
 use Rattle.discharge.specs.declared.Want.{Want}
 use Rattle.discharge.specs.declared.Want.the-variants.{Vars, Load, Reg, Next, Any, Val, Rk}
 use Rattle.discharge.specs.declared.Operand.{Operand}
 use Rattle.discharge.specs.declared.Operand.the-variants as operand
 use Rattle.discharge.specs.declared.Spot.{Spot}
 use Rattle.discharge.specs.declared.Spot.the-variants as spot
+use Rattle.discharge.specs.Changes.{changed}
 use Rattle.discharge.specs.Kinds.{placed}
 
 -- the definition that each is; `Load` and `Reg` want it in the register that is named
@@ -127,3 +130,7 @@ Rests w reg e x s r = Answers-constants x s (restIs w reg e r)
 -- what is wanted; where that is only a value, the constants are not touched
 abbrev pub Brings : Want → ℕ → ExprContext → State → Described → Lent → Lent → Lent → Lent → Lent → Type 0
 Brings w reg e s r code lines kinds values pool = Describes (wanted w reg e) s r code lines kinds values pool × (only-value w ≡ true → Describes-words (discharge-vars e) s r code lines)
+
+-- .. of a state and a descriptor that came by their numbers, from what `bring_fields` gives back
+abbrev pub Brings-back : State → ExprContext → Want → ℕ → Brought → Lent → Lent → Lent → Lent → Lent → Type 0
+Brings-back s₀ e₀ w reg r code lines kinds values pool = (s : State) (e : ExprContext) → s₀ ≡ s → e₀ ≡ e → Brings w reg e s (changed r s e) code lines kinds values pool

@@ -5,19 +5,20 @@ ghost use mathlib.Core.List.{[]};
 ghost use mathlib.Core.Path.{_≡_};
 ghost use Prim.Native.Nat.{ℕ};
 ghost use lib.ListN.{set};
+ghost use Rattle.buffers.specs.Lent.{new, old};
 ghost use Rattle.instructions.specs.Word.{setAOf, setBOf, setCOf};
 ghost use Rattle.model.specs.declared.ExprKind.the-variants.{Nil, KNum, Global, Indexed, NonReloc, Call, VarArg};
 ghost use Rattle.model.specs.declared.State.{State};
 ghost use Rattle.model.specs.declared.ExprContext.{ExprContext};
 ghost use Rattle.model.specs.Steps.{Buffers, done, andThen, steppedIs, givenIs, describedIs};
 ghost use Rattle.model.specs.Contracts.{Answers-code, Describes, Describes-words, Gives-constants, Gives-words, Steps-words};
-ghost use Rattle.model.specs.Descriptor.{isKind, with-kind, with-jumps, has-jumps};
+ghost use Rattle.model.specs.Descriptor.{with-kind, with-jumps, has-jumps};
 ghost use Rattle.model.specs.Jumps.{word};
 ghost use Rattle.model.specs.Emission.{add-constant};
 ghost use Rattle.model.specs.Discharge.{discharge-kind, discharge-vars, number-constant, load-kind, discharge2reg as discharge2regOf, discharge2anyreg as discharge2anyregOf, land as landOf, load-both, settle as settleOf, join-jump, exp2reg as exp2regOf, exp2nextreg as exp2nextregOf, exp2anyreg as exp2anyregOf, exp2val as exp2valOf, small as smallOf, near as nearOf, rk-kind, exp2rk as exp2rkOf};
 ghost use Rattle.discharge.specs.Changes.{stateOf, contextOf, changes as changesOf, changed as changedOf};
 ghost use Rattle.discharge.specs.Kinds.{lacks-value, put, give, over-of, load-yes, load-no, placed};
-ghost use Rattle.discharge.specs.Wants.{only-value, keeps-open, is-value, is-plain, wants-operand, wanted, reg-of, landing-of, there-of, restIs, spotIs, Rests, Brings};
+ghost use Rattle.discharge.specs.Wants.{Brings-back, only-value, keeps-open, is-value, is-plain, wants-operand, wanted, reg-of, landing-of, there-of, restIs, spotIs, Rests, Brings};
 ghost use Rattle.discharge.specs.declared.Want.the-variants.{Next, Rk};
 use constants::Table;
 use constants::Val;
@@ -87,7 +88,7 @@ pub fn has_jumps(e: ExprContext) -> bool
 // ---- a word's field in place
 
 pub fn set_a_at(code: &mut [u32], pc: usize, a: usize)
-    ensures { λ _. ⌜ set (now (code .entry)) pc (setAOf (word (now (code .entry)) pc) a) ≡ now (code .exit) ⌝ }
+    ensures { λ _. ⌜ set (old code) pc (setAOf (word (old code) pc) a) ≡ new code ⌝ }
 {
     let i = Instruction {
         raw: word_at(code, pc),
@@ -97,7 +98,7 @@ pub fn set_a_at(code: &mut [u32], pc: usize, a: usize)
 }
 
 pub fn set_b_at(code: &mut [u32], pc: usize, b: u32)
-    ensures { λ _. ⌜ set (now (code .entry)) pc (setBOf (word (now (code .entry)) pc) b) ≡ now (code .exit) ⌝ }
+    ensures { λ _. ⌜ set (old code) pc (setBOf (word (old code) pc) b) ≡ new code ⌝ }
 {
     let i = Instruction {
         raw: word_at(code, pc),
@@ -107,7 +108,7 @@ pub fn set_b_at(code: &mut [u32], pc: usize, b: u32)
 }
 
 pub fn set_c_at(code: &mut [u32], pc: usize, c: u32)
-    ensures { λ _. ⌜ set (now (code .entry)) pc (setCOf (word (now (code .entry)) pc) c) ≡ now (code .exit) ⌝ }
+    ensures { λ _. ⌜ set (old code) pc (setCOf (word (old code) pc) c) ≡ new code ⌝ }
 {
     let i = Instruction {
         raw: word_at(code, pc),
@@ -165,22 +166,15 @@ fn one_vararg(code: &mut [u32], e: ExprContext) -> ExprContext
 fn discharge_kind(code: &mut [u32], lines: &mut [u32], st: State, e: ExprContext) -> Described
     ensures { λ r. ⌜ Describes-words (discharge-vars e) st r code lines ⌝ }
 {
-    if is_kind(e, ExprKind::Local) {
-        return Described::Done(st, with_kind(e, ExprKind::NonReloc, e.info));
+    let kind = e.kind;
+    match kind {
+        ExprKind::Local => Described::Done(st, with_kind(e, ExprKind::NonReloc, e.info)),
+        ExprKind::Global => discharge_global(code, lines, st, e),
+        ExprKind::Indexed => discharge_indexed(code, lines, st, e),
+        ExprKind::Call => Described::Done(st, one_result(code, e)),
+        ExprKind::VarArg => Described::Done(st, one_vararg(code, e)),
+        _ => Described::Done(st, e),
     }
-    if is_kind(e, ExprKind::Global) {
-        return discharge_global(code, lines, st, e);
-    }
-    if is_kind(e, ExprKind::Indexed) {
-        return discharge_indexed(code, lines, st, e);
-    }
-    if is_kind(e, ExprKind::Call) {
-        return Described::Done(st, one_result(code, e));
-    }
-    if is_kind(e, ExprKind::VarArg) {
-        return Described::Done(st, one_vararg(code, e));
-    }
-    Described::Done(st, e)
 }
 
 // ---- constants
@@ -258,41 +252,6 @@ fn load_moved(
     loaded(answer, e, reg)
 }
 
-// A value goes to a register, unless it is a number.
-fn load_other(
-    code: &mut [u32],
-    lines: &mut [u32],
-    st: State,
-    e: ExprContext,
-    reg: usize,
-) -> Described
-    ensures { λ r. ⌜ (isKind KNum e ≡ false → Describes-words (load-kind (e .kind) e reg) st r code lines) ⌝ }
-{
-    if is_kind(e, ExprKind::Nil) {
-        return load_nil(code, lines, st, e, reg);
-    }
-    if is_kind(e, ExprKind::True) {
-        let answer = emit_abc(code, lines, st, OpCode::LoadBool, reg, 1, 0);
-        return loaded(answer, e, reg);
-    }
-    if is_kind(e, ExprKind::False) {
-        let answer = emit_abc(code, lines, st, OpCode::LoadBool, reg, 0, 0);
-        return loaded(answer, e, reg);
-    }
-    if is_kind(e, ExprKind::K) {
-        let answer = emit_abx(code, lines, st, OpCode::LoadK, reg, e.info);
-        return loaded(answer, e, reg);
-    }
-    if is_kind(e, ExprKind::Relocable) {
-        set_a_at(code, e.info, reg);
-        return Described::Done(st, with_kind(e, ExprKind::NonReloc, reg));
-    }
-    if is_kind(e, ExprKind::NonReloc) {
-        return load_moved(code, lines, st, e, reg);
-    }
-    Described::Done(st, e)
-}
-
 fn load_number(
     code: &mut [u32],
     lines: &mut [u32],
@@ -315,6 +274,7 @@ fn load_number(
     }
 }
 
+// A value goes to a register.
 fn load_kind(
     code: &mut [u32],
     lines: &mut [u32],
@@ -327,10 +287,29 @@ fn load_kind(
 ) -> Described
     ensures { λ r. ⌜ Describes (load-kind (e .kind) e reg) st r code lines kinds values pool ⌝ }
 {
-    if is_kind(e, ExprKind::KNum) {
-        return load_number(code, lines, kinds, values, pool, st, e, reg);
+    let kind = e.kind;
+    match kind {
+        ExprKind::Nil => load_nil(code, lines, st, e, reg),
+        ExprKind::True => {
+            let answer = emit_abc(code, lines, st, OpCode::LoadBool, reg, 1, 0);
+            loaded(answer, e, reg)
+        }
+        ExprKind::False => {
+            let answer = emit_abc(code, lines, st, OpCode::LoadBool, reg, 0, 0);
+            loaded(answer, e, reg)
+        }
+        ExprKind::K => {
+            let answer = emit_abx(code, lines, st, OpCode::LoadK, reg, e.info);
+            loaded(answer, e, reg)
+        }
+        ExprKind::KNum => load_number(code, lines, kinds, values, pool, st, e, reg),
+        ExprKind::Relocable => {
+            set_a_at(code, e.info, reg);
+            Described::Done(st, with_kind(e, ExprKind::NonReloc, reg))
+        }
+        ExprKind::NonReloc => load_moved(code, lines, st, e, reg),
+        _ => Described::Done(st, e),
     }
-    load_other(code, lines, st, e, reg)
 }
 
 // ---- jumps that bring a value
@@ -406,7 +385,7 @@ fn load_both(code: &mut [u32], lines: &mut [u32], st: State, e: ExprContext, reg
 
 // Whether some jump of either list brings no value.
 fn lacks_value(code: &[u32], e: ExprContext) -> bool
-    ensures { λ r. ⌜ lacks-value e (now (code .entry)) ≡ r ⌝ }
+    ensures { λ r. ⌜ lacks-value e (old code) ≡ r ⌝ }
 {
     if need_value(code, e.t) {
         return true;
@@ -552,7 +531,7 @@ fn rk_number(
     }
 }
 
-// A value as an operand.
+// A value as an operand. Tests and no `match`, which takes 4 in 100 longer (docs/BENCHMARKS.md).
 fn rk_kind(
     kinds: &mut [u8],
     values: &mut [u64],
@@ -797,8 +776,9 @@ fn as_wanted(
 
 // ---- what it changes
 
-// State and descriptor go to `bring_fields` number by number, and it gives back only what may have changed:
-// a struct goes through memory, and the machine waits for what is copied as soon as it is written.
+// State and descriptor go to `bring_fields` number by number, and it gives back only what may have changed: a struct goes through memory, and the
+// machine waits for what is copied as soon as it is written. Without this layer a lowering of 1,000 nodes takes 49 in 100 longer, with structs in and
+// numbers out 17 (docs/BENCHMARKS.md).
 enum Brought {
     Refused(Refusal),
     Done {
@@ -914,8 +894,8 @@ fn bring_fields(
     want: Want,
     reg: usize,
 ) -> Brought
-    ensures { λ r. ⌜ ((s : State) (e : ExprContext) → stateOf at line pc count used active free frame jpc label ≡ s
-        → contextOf kind info aux nval bits t f ≡ e → Brings want reg e s (changedOf r s e) code lines kinds values pool) ⌝ }
+    ensures { λ r. ⌜ Brings-back (stateOf at line pc count used active free frame jpc label)
+        (contextOf kind info aux nval bits t f) want reg r code lines kinds values pool ⌝ }
 {
     let table = Table { count, used };
     let st = State {

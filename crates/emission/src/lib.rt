@@ -3,9 +3,10 @@
 ghost use mathlib.Core.Path.{_≡_};
 ghost use Prim.Native.Nat.{_+_};
 ghost use lib.ListN.{length};
+ghost use Rattle.buffers.specs.Lent.{Rewrites, bytes};
 ghost use Rattle.instructions.specs.Limits.{noReg};
 ghost use Rattle.model.specs.Steps.{Buffers, done, steppedIs, givenIs};
-ghost use Rattle.model.specs.Contracts.{Answers-code, Gives-constants, Gives-words, Rewrites, Steps-words, bytes};
+ghost use Rattle.model.specs.Contracts.{Answers-code, Gives-constants, Gives-words, Steps-words};
 ghost use Rattle.model.specs.Jumps.{patch-list-aux};
 ghost use Rattle.model.specs.Emission.{with-pc, with-free, with-frame, with-jpc, with-label, discharge-jpc, push as pushOf, emit-at, emit as emitOf, emit-abc, emit-abx, emit-jump, patch-to-here, get-label, code-label, adjoins as adjoinsOf, load-nil, emit-nil, check-stack, reserve-regs, alloc-reg, free-reg, with-table, keep as keepOf, add-constant};
 ghost use Rattle.emission.specs.Parts.{freed-to};

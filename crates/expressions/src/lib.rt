@@ -3,10 +3,12 @@
 ghost use mathlib.Core.List.{List};
 ghost use mathlib.Core.Path.{_≡_};
 ghost use Prim.Native.Nat.{ℕ};
+ghost use Rattle.buffers.specs.Lent.{bytes};
 ghost use Rattle.chunk.specs.declared.header.Header.{Header};
-ghost use Rattle.model.specs.Contracts.{Describes, Follows, bytes};
+ghost use Rattle.model.specs.Contracts.{Describes, Describes-anyhow, Follows};
 ghost use Rattle.model.specs.Emission.{with-place};
-ghost use Rattle.model.specs.Expressions.{after-one, between as betweenOf, callee as calleeOf, after-two, compile-expr, compile-funcargs};
+ghost use Rattle.model.specs.Expressions.{after-one, between as betweenOf, callee as calleeOf, after-two, compile-expr};
+ghost use Rattle.expressions.specs.Parts.{funcargs};
 use ast::Head;
 use ast::Many;
 use ast::One;
@@ -82,7 +84,7 @@ pub fn between(
     t: Two,
     e: ExprContext,
 ) -> Described
-    ensures { λ r. ⌜ ((c : List ℕ) (h : Header) → Describes (betweenOf c h t e) st r code lines kinds values pool) ⌝ }
+    ensures { λ r. ⌜ Describes-anyhow (λ c h. betweenOf c h t e) st r code lines kinds values pool ⌝ }
 {
     match t {
         Two::Binary(op) => infix(code, lines, kinds, values, pool, st, op, e),
@@ -102,8 +104,7 @@ pub fn after_two(
     e1: ExprContext,
     e2: ExprContext,
 ) -> Described
-    ensures { λ r. ⌜ ((c : List ℕ) (h : Header)
-        → Describes (after-two c h t e1 e2) st r code lines kinds values pool) ⌝ }
+    ensures { λ r. ⌜ Describes-anyhow (λ c h. after-two c h t e1 e2) st r code lines kinds values pool ⌝ }
 {
     match t {
         Two::Binary(op) => postfix(code, lines, kinds, values, pool, st, op, e1, e2),
@@ -285,8 +286,7 @@ pub fn compile_funcargs(
     line: u32,
     n: u8,
 ) -> Described
-    ensures { λ r. ⌜ Describes (compile-funcargs (compile-expr (bytes chunk) h left) func line n)
-        st r code lines kinds values pool ⌝ }
+    ensures { λ r. ⌜ Describes (funcargs (bytes chunk) h left func line n) st r code lines kinds values pool ⌝ }
 {
     let mut s = st;
     let mut rest = n;

@@ -1,9 +1,8 @@
 // What a chunk's header and formulas are lowered to: the locals' registers, the formulas one after another, `Return` (document 01, "Lowering").
-ghost use Rattle.chunk.specs.Form.{maxNesting};
-ghost use Rattle.model.specs.Contracts.{Steps, Steps-words, bytes};
-ghost use Rattle.model.specs.Expressions.{compile-expr};
-ghost use Rattle.model.specs.Lowering.{formulas as formulasOf, lower-chunk};
-ghost use Rattle.formulas.specs.Parts.{returning};
+ghost use Rattle.buffers.specs.Lent.{bytes};
+ghost use Rattle.model.specs.Contracts.{Steps, Steps-words};
+ghost use Rattle.model.specs.Lowering.{lower-chunk};
+ghost use Rattle.formulas.specs.Parts.{first-formulas, returning};
 use chunk::form::MAX_NESTING;
 use chunk::header::Header;
 use discharge::exp2nextreg;
@@ -29,7 +28,7 @@ fn formulas(
     st: State,
     n: usize,
 ) -> Stepped
-    ensures { λ r. ⌜ Steps (formulasOf (compile-expr (bytes chunk) h maxNesting) n) st r code lines kinds values pool ⌝ }
+    ensures { λ r. ⌜ Steps (first-formulas (bytes chunk) h n) st r code lines kinds values pool ⌝ }
 {
     let mut s = st;
     let mut rest = n;

@@ -1,6 +1,6 @@
 -- What a field of a number is after one was set, for any place and size; and, as instances, what a field of a word is after the word was built or another field of it was set.
 -- Which word it is after a field of a built one was set; that of a value only what fits its field counts; that words stay below 2 ^ 32; and that sBx reads back what was stored.
--- Proofs above this crate cite most of these (the others complete the table of fields); the layout itself is unfolded there only where an example is computed. Assumes nothing.
+-- Proofs above this crate cite those of words; the others are their reasons, or complete the table of fields. The layout itself is unfolded above only where an example is computed. Assumes nothing.
 use Prim.Native.Nat.{ℕ, suc, _+_, _*_, _/_, _%_, _-_, _^_, _<_, _≤_}
 use mathlib.Core.Bool.{Bool, true, false, cond}
 use mathlib.Core.Path.{_≡_, refl, sym, ap, _∙_}

@@ -5,6 +5,7 @@ ghost use Prim.Native.Nat.{_+_, _-_, _<_};
 ghost use lib.IntN.{pos, _-ℤ_};
 ghost use lib.Dec.{eqb};
 ghost use lib.ListN.{length, set};
+ghost use Rattle.buffers.specs.Lent.{new, old};
 ghost use Rattle.opcodes.specs.OpCodes.{codeOf};
 ghost use Rattle.opcodes.specs.declared.OpCode.the-variants.{Test, TestSet};
 ghost use Rattle.instructions.specs.Word.{opOf, bOf, cOf, abcOf, excess};
@@ -19,14 +20,14 @@ use opcodes::OpCode;
 
 // `get_instruction`: the word at pc.
 pub fn word_at(code: &[u32], pc: usize) -> u32
-    ensures { λ r. ⌜ word (now (code .entry)) pc ≡ r ⌝ }
+    ensures { λ r. ⌜ word (old code) pc ≡ r ⌝ }
 {
     if pc < code.len() { code[pc] } else { 0 }
 }
 
 // `set_instruction`: stores w at pc.
 pub fn put_word(code: &mut [u32], pc: usize, w: u32)
-    ensures { λ _. ⌜ set (now (code .entry)) pc w ≡ now (code .exit) ⌝ }
+    ensures { λ _. ⌜ set (old code) pc w ≡ new code ⌝ }
 {
     if pc < code.len() {
         code[pc] = w;
@@ -52,7 +53,7 @@ fn behind(list: usize, sbx: i32) -> usize
 }
 
 pub fn get_jump_target(code: &[u32], list: usize) -> usize
-    ensures { λ r. ⌜ get-jump-target (now (code .entry)) list ≡ r ⌝ }
+    ensures { λ r. ⌜ get-jump-target (old code) list ≡ r ⌝ }
 {
     if list == 0 {
         return 0;
@@ -72,7 +73,7 @@ fn offset(pc: usize, target: usize) -> i32
 
 // The list's first jump leads to word `target`.
 pub fn patch_jump(code: &mut [u32], list: usize, target: usize)
-    ensures { λ _. ⌜ patch-jump (now (code .entry)) list target ≡ now (code .exit) ⌝ }
+    ensures { λ _. ⌜ patch-jump (old code) list target ≡ new code ⌝ }
 {
     if list == 0 {
         return;
@@ -87,7 +88,7 @@ pub fn patch_jump(code: &mut [u32], list: usize, target: usize)
 
 // The last jump of a list.
 fn last_jump(code: &[u32], list: usize) -> usize
-    ensures { λ r. ⌜ last-jump (length (now (code .entry))) (now (code .entry)) list ≡ r ⌝ }
+    ensures { λ r. ⌜ last-jump (length (old code)) (old code) list ≡ r ⌝ }
 {
     let mut l = list;
     let mut left = code.len();
@@ -104,7 +105,7 @@ fn last_jump(code: &[u32], list: usize) -> usize
 
 // The list of both: l2 hangs on the last jump of l1.
 pub fn concat_jumps(code: &mut [u32], l1: usize, l2: usize) -> usize
-    ensures { λ r. ⌜ (concat-jumps l1 l2 ≡ r) × (linked (now (code .entry)) l1 l2 ≡ now (code .exit)) ⌝ }
+    ensures { λ r. ⌜ (concat-jumps l1 l2 ≡ r) × (linked (old code) l1 l2 ≡ new code) ⌝ }
 {
     if l2 == 0 {
         return l1;
@@ -119,7 +120,7 @@ pub fn concat_jumps(code: &mut [u32], l1: usize, l2: usize) -> usize
 
 // The test before the jump at pc, else the jump itself.
 pub fn get_jump_control(code: &[u32], pc: usize) -> usize
-    ensures { λ r. ⌜ get-jump-control (now (code .entry)) pc ≡ r ⌝ }
+    ensures { λ r. ⌜ get-jump-control (old code) pc ≡ r ⌝ }
 {
     if pc == 0 {
         return 0;
@@ -135,7 +136,7 @@ pub fn get_jump_control(code: &[u32], pc: usize) -> usize
 
 // The word that controls a list's first jump.
 fn control(code: &[u32], list: usize) -> usize
-    ensures { λ r. ⌜ controlOf (now (code .entry)) list ≡ r ⌝ }
+    ensures { λ r. ⌜ controlOf (old code) list ≡ r ⌝ }
 {
     if list == 0 {
         return 0;
@@ -153,7 +154,7 @@ fn is_test_set(w: u32) -> bool
 
 // Whether some jump of the list isn't controlled by a `TestSet`.
 pub fn need_value(code: &[u32], list: usize) -> bool
-    ensures { λ r. ⌜ need-value (length (now (code .entry))) (now (code .entry)) list ≡ r ⌝ }
+    ensures { λ r. ⌜ need-value (length (old code)) (old code) list ≡ r ⌝ }
 {
     let mut l = list;
     let mut left = code.len();
@@ -197,7 +198,7 @@ fn retest(reg: usize, w: u32) -> u32
 
 // A `TestSet` that controls the list's first jump becomes what `retest` says for `reg`; whether there is one.
 pub fn patch_test_reg(code: &mut [u32], list: usize, reg: usize) -> bool
-    ensures { λ r. ⌜ (keeps-value (now (code .entry)) list ≡ r) × (patch-test-reg (now (code .entry)) list reg ≡ now (code .exit)) ⌝ }
+    ensures { λ r. ⌜ (keeps-value (old code) list ≡ r) × (patch-test-reg (old code) list reg ≡ new code) ⌝ }
 {
     let at = control(code, list);
     let w = word_at(code, at);
@@ -210,7 +211,7 @@ pub fn patch_test_reg(code: &mut [u32], list: usize, reg: usize) -> bool
 
 // No `TestSet` of the list keeps its value.
 pub fn remove_values(code: &mut [u32], list: usize)
-    ensures { λ _. ⌜ remove-values (length (now (code .entry))) (now (code .entry)) list ≡ now (code .exit) ⌝ }
+    ensures { λ _. ⌜ remove-values (length (old code)) (old code) list ≡ new code ⌝ }
 {
     let mut l = list;
     let mut left = code.len();
@@ -226,7 +227,7 @@ pub fn remove_values(code: &mut [u32], list: usize)
 
 // The list's first jump leads to `vtarget` and leaves its value in `reg`, or leads to `dtarget` if it has none.
 fn patch_first(code: &mut [u32], list: usize, vtarget: usize, reg: usize, dtarget: usize)
-    ensures { λ _. ⌜ led (now (code .entry)) list vtarget reg dtarget ≡ now (code .exit) ⌝ }
+    ensures { λ _. ⌜ led (old code) list vtarget reg dtarget ≡ new code ⌝ }
 {
     if patch_test_reg(code, list, reg) {
         patch_jump(code, list, vtarget);
@@ -237,7 +238,7 @@ fn patch_first(code: &mut [u32], list: usize, vtarget: usize, reg: usize, dtarge
 
 // Jumps with a value lead to `vtarget` and leave it in `reg`, the others to `dtarget`.
 pub fn patch_list_aux(code: &mut [u32], list: usize, vtarget: usize, reg: usize, dtarget: usize)
-    ensures { λ _. ⌜ patch-list-aux (length (now (code .entry))) (now (code .entry)) list vtarget reg dtarget ≡ now (code .exit) ⌝ }
+    ensures { λ _. ⌜ patch-list-aux (length (old code)) (old code) list vtarget reg dtarget ≡ new code ⌝ }
 {
     let mut l = list;
     let mut left = code.len();

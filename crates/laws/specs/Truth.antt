@@ -9,9 +9,6 @@ or-false false b h = (refl, h)
 pub no-and : (a b : Bool) → a ≡ false → (a && b) ≡ false
 no-and a b h = rw h refl
 
-pub yes-and : {a b r : Bool} → a ≡ true → b ≡ r → (a && b) ≡ r
-yes-and h e = rw h e
-
 pub and-true : (a b : Bool) → (a && b) ≡ true → (a ≡ true) × (b ≡ true)
 and-true true b h = (refl, h)
 and-true false b h = absurd (true≢false (sym h))

@@ -17,10 +17,11 @@ use Rattle.model.specs.declared.Counts.{Counts}
 use Rattle.model.specs.declared.Lowered.{Lowered}
 use Rattle.model.specs.declared.Lowered.the-variants as answer
 use Rattle.model.specs.Steps.{Buffers}
+use Rattle.model.specs.Lengths.{Same-lengths}
 use Rattle.model.specs.Claims.{sizes}
 use Rattle.model.specs.Lowering.{Sizes, cleared, Out, out, refusal-of, lower-formed, lowered}
 use Rattle.lowering.specs.Parts.{from-header, scratch-of}
-use Rattle.lowering.specs.Laws.{cleared-again}
+use Rattle.lowering.specs.Laws.{same-sizes, cleared-again}
 
 module _ (z : Sizes) (chunk : List ℕ) where
   -- the lowering of a known form
@@ -73,12 +74,9 @@ module _ (z : Sizes) (chunk : List ℕ) where
 
 -- ---- as the code has it: buffers that are zeros, of the lengths that were lent
 
-module _ (m : Buffers) (chunk : List ℕ) (n : ℕ) {o : Buffers} (zero : cleared (sizes o 0) ≡ o) (lc : length (o .code) ≡ length (m .code)) (ll : length (o .lines) ≡ length (m .lines)) (lk : length (o .kinds) ≡ length (m .kinds)) (lv : length (o .values) ≡ length (m .values)) (lp : length (o .pool) ≡ length (m .pool)) where
+module _ (m : Buffers) (chunk : List ℕ) (n : ℕ) {o : Buffers} (zero : cleared (sizes o 0) ≡ o) (same : Same-lengths o m) where
   is-cleared : cleared (sizes m n) ≡ o
-  is-cleared = cleared-again m n zero lc ll lk lv lp
-
-  same-sizes : sizes o n ≡ sizes m n
-  same-sizes = rw (lc, ll, lk, lv, lp) refl
+  is-cleared = cleared-again m n zero same
 
   pub at-unformed : {k : Refusal} {s : List ℕ} {a : Form} → checked (formOf chunk) n ≡ answered a s → a ≡ form.Refused k → lowered (sizes m n) chunk ≡ out (answer.Refused k) o s
   at-unformed {s = s} e q = entry-unformed (sizes m n) chunk (e ∙ ap (λ a. answered a s) q) is-cleared
@@ -89,7 +87,7 @@ module _ (m : Buffers) (chunk : List ℕ) (n : ℕ) {o : Buffers} (zero : cleare
 
     module _ {r : Lowered} {p : Buffers} (l : j ≤ n) (f : (n : ℕ) (places : List ℕ) → from-header (sizes o n) chunk places o ≡ out r p (scratch-of r n places)) where
       from-lent : (places : List ℕ) → from-header (sizes m n) chunk places (cleared (sizes m n)) ≡ out r p (scratch-of r n places)
-      from-lent places = ap (λ y. from-header (sizes m n) chunk places y) is-cleared ∙ ap (λ y. from-header y chunk places o) (sym same-sizes) ∙ f n places
+      from-lent places = ap (λ y. from-header (sizes m n) chunk places y) is-cleared ∙ ap (λ y. from-header y chunk places o) (sym (same-sizes same n)) ∙ f n places
 
       pub at-done : {k : Counts} → r ≡ answer.Done k → lowered (sizes m n) chunk ≡ out (answer.Done k) p s
       at-done {k} y = entry-lowered (sizes m n) chunk (answer.Done k) (e ∙ ap (λ a. answered a s) q) l (subst (λ r. (places : List ℕ) → from-header (sizes m n) chunk places (cleared (sizes m n)) ≡ out r p (scratch-of r n places)) y from-lent) s (λ places x. x)

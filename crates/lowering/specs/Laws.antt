@@ -11,6 +11,7 @@ use Rattle.chunk.specs.declared.header.HeaderRead.the-variants as header
 use Rattle.model.specs.declared.State.{State}
 use Rattle.model.specs.declared.Lowered.the-variants as answer
 use Rattle.model.specs.Steps.{Buffers, bufs, Result, done, refused}
+use Rattle.model.specs.Lengths.{Same-lengths}
 use Rattle.model.specs.Claims.{sizes}
 use Rattle.model.specs.Lowering.{cleared, start, lower-chunk, out, ended, with-header, counts-of}
 use Rattle.lowering.specs.Parts.{from-header}
@@ -35,9 +36,12 @@ five-same p q r s t = rw (p, q, r, s, t) refl
 pub still-zeros : (n : ℕ) {l : List ℕ} → zeros n ≡ l → zeros (length l) ≡ l
 still-zeros n e = ap zeros (ap length (sym e) ∙ length-replicate n 0) ∙ e
 
--- zeros for zeros, where lengths are kept
-pub cleared-again : (m : Buffers) (n : ℕ) {o : Buffers} → cleared (sizes o 0) ≡ o → length (o .code) ≡ length (m .code) → length (o .lines) ≡ length (m .lines) → length (o .kinds) ≡ length (m .kinds) → length (o .values) ≡ length (m .values) → length (o .pool) ≡ length (m .pool) → cleared (sizes m n) ≡ o
-cleared-again m n z a b c d e = five-same (ap zeros (sym a)) (ap zeros (sym b)) (ap zeros (sym c)) (ap zeros (sym d)) (ap zeros (sym e)) ∙ z
+-- where lengths are kept: sizes, and zeros for zeros
+pub same-sizes : {o m : Buffers} → Same-lengths o m → (n : ℕ) → sizes o n ≡ sizes m n
+same-sizes l n = rw (l .code, l .lines, l .kinds, l .values, l .pool) refl
+
+pub cleared-again : (m : Buffers) (n : ℕ) {o : Buffers} → cleared (sizes o 0) ≡ o → Same-lengths o m → cleared (sizes m n) ≡ o
+cleared-again m n z l = ap cleared (sym (same-sizes l n)) ∙ z
 
 -- the state that the code begins with
 pub started : (chunk : List ℕ) (h : Header) (m : Buffers) {s t : State} {x : Result (Unit {0})} → s ≡ t → lower-chunk chunk h t m ≡ x → lower-chunk chunk h s m ≡ x

@@ -8,7 +8,8 @@ use Rattle.model.specs.declared.Lowered.{Lowered}
 use Rattle.model.specs.declared.Lowered.the-variants as answer
 use Rattle.model.specs.Steps.{Buffers}
 use Rattle.model.specs.Claims.{sizes}
-use Rattle.model.specs.Contracts.{Lent, before, after}
+use Rattle.buffers.specs.Lent.{Lent}
+use Rattle.model.specs.Contracts.{before, after}
 use Rattle.model.specs.Lowering.{Sizes, start, lower-chunk, Out, out, ended, with-header}
 
 -- the end of `lower-formed`, from buffers m

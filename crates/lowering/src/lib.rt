@@ -1,8 +1,9 @@
 // The entry `lower`, which clears, checks the form, and lowers (document 01, "Refused chunks").
 ghost use mathlib.Core.Path.{_≡_};
 ghost use lib.ListN.{length};
+ghost use Rattle.buffers.specs.Lent.{bytes, new};
 ghost use Rattle.buffers.specs.Pad.{zeros};
-ghost use Rattle.model.specs.Contracts.{Lowers-lent, after, bytes};
+ghost use Rattle.model.specs.Contracts.{Lowers-lent, after};
 ghost use Rattle.model.specs.Claims.{sizes};
 ghost use Rattle.model.specs.Lowering.{cleared, start};
 ghost use Rattle.lowering.specs.Parts.{Lowers-cleared};
@@ -34,7 +35,7 @@ fn clear(code: &mut [u32], lines: &mut [u32], kinds: &mut [u8], values: &mut [u6
 }
 
 fn clear_scratch(scratch: &mut [u32])
-    ensures { λ _. ⌜ zeros (length (now (scratch .exit))) ≡ now (scratch .exit) ⌝ }
+    ensures { λ _. ⌜ zeros (length (new scratch)) ≡ new scratch ⌝ }
 {
     clear_words(scratch);
 }

@@ -4,7 +4,8 @@ use mathlib.Core.Path.{_≡_}
 use mathlib.Core.List.{List, _++_}
 use mathlib.Core.Option.{some}
 use lib.ListN.{length, getD, take}
-use Rattle.refusals.specs.Number.{numberOf}
+use Rattle.refusals.specs.Stage.{stageOf}
+use Rattle.refusals.specs.Stage as stage
 use Rattle.refusals.specs.declared.Refusal.{Refusal}
 use Rattle.refusals.specs.declared.Refusal.the-variants as refusal
 use Rattle.buffers.specs.Pad.{zeros}
@@ -53,11 +54,11 @@ pub record Left (z : Sizes) (chunk : List ℕ) (k : Counts) (m : Buffers) (scrat
   pub room : length (placesOf (spansOf (tree .formulas))) ≤ z .scratch
   pub places : scratch ≡ placesOf (spansOf (tree .formulas)) ++ zeros (z .scratch - length (placesOf (spansOf (tree .formulas))))
 
--- where a refusal is given: 1 to 8 where the form gives it; of a chunk that has the form, 9 where the scratch is shorter than the nodes, and 10 to 13 where it isn't
+-- where a refusal is given: one of the form where the form gives it; of a chunk that has the form, 9 where the scratch is shorter than the nodes, and one of the steps, 10 to 13, where it isn't
 pub data Due (z : Sizes) (chunk : List ℕ) (x : Refusal) : Type 0 where
-  by-form : formOf chunk ≡ unformed x → numberOf x ≤ 8 → Due z chunk x
+  by-form : formOf chunk ≡ unformed x → stageOf x ≡ stage.form → Due z chunk x
   by-scratch : (c : Chunk) → formOf chunk ≡ formed c → z .scratch < length (placesOf (spansOf (c .formulas))) → x ≡ refusal.Scratch → Due z chunk x
-  by-lowering : (c : Chunk) → formOf chunk ≡ formed c → length (placesOf (spansOf (c .formulas))) ≤ z .scratch → 10 ≤ numberOf x → Due z chunk x
+  by-lowering : (c : Chunk) → formOf chunk ≡ formed c → length (placesOf (spansOf (c .formulas))) ≤ z .scratch → stageOf x ≡ stage.steps → Due z chunk x
 
 -- a refusal leaves only zeros, and comes from the stage that `Due` names; which of 10 to 13 it is, and where, the equation with `lowered` tells
 abbrev pub Padded : Sizes → List ℕ → Lowered → Buffers → List ℕ → Type 0

@@ -134,9 +134,13 @@ module _ (chunk : List ℕ) (h : Header) where
     k ← string-constant t
     return (newOf Global k)
 
+  -- the register of the last local of that name
+  abbrev pub register-named : Text → Option ℕ
+  register-named t = search-local chunk (bytesOf chunk t) (namesOf (namesAt chunk (h .locals) (h .names))) 0
+
   -- `resolve_var`: a local by its last name, else a global
   unfoldable pub resolve-var : Text → Step ExprContext
-  resolve-var t = resolved t (search-local chunk (bytesOf chunk t) (namesOf (namesAt chunk (h .locals) (h .names))) 0)
+  resolve-var t = resolved t (register-named t)
 
   -- `compile_expr` of a node that has no sub-expression
   unfoldable pub leaf-expr : Leaf → Step ExprContext

@@ -11,6 +11,8 @@ pub mod Operators
 pub mod Expressions
 pub mod Lowering
 pub mod Claims
+pub mod Lengths
 pub mod Contracts
 pub mod Rows
 pub mod Runs
+mod Outcomes

@@ -82,10 +82,10 @@ abbrev pub skip-if : Bool → Machine → After
 skip-if true m = goes (at (m .pc + 2) m)
 skip-if false m = next m
 
--- a jump leads from its own word to the one behind it and sBx further: never back
+-- a jump leads from its own word to the one behind it and sBx further, which may be back
 abbrev pub jump : Machine → ℤ → After
 jump m (pos n) = goes (at (m .pc + 1 + n) m)
-jump m (negsuc n) = stuck
+jump m (negsuc n) = goes (at (m .pc - n) m)
 
 -- a name is a text
 abbrev pub name-of : Value → (Value → After) → After

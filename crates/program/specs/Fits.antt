@@ -19,7 +19,8 @@ use Rattle.padding.specs.Padded.{padded}
 use Rattle.listing.specs.declared.Listed.the-variants as listed
 use Rattle.listing.specs.Page.{Sheet, sheet, written}
 use Rattle.listing.specs.Listing.{decimal, glyph, hex, word-line, constant-line, word-lines, constant-lines, refusal-line, listing}
-use Rattle.program.specs.Weavelist.{lent, maxInput, list-of, weavelist, maxPage, whole}
+use Rattle.model.specs.Rows.{weavelist as lent}
+use Rattle.program.specs.Weavelist.{maxInput, list-of, weavelist, maxPage, whole}
 
 digits : (k n : ℕ) → length (decimal k n) ≤ k
 unfolding decimal

@@ -17,7 +17,8 @@ use Rattle.listing.specs.declared.Listed.{Listed}
 use Rattle.listing.specs.declared.Listed.the-variants as listed
 use Rattle.listing.specs.Listing.{refusal-line, listing}
 use Rattle.listing.specs.Page.{Sheet, sheet, written}
-use Rattle.program.specs.Weavelist.{lent, maxInput, list-of, weavelist}
+use Rattle.model.specs.Rows.{weavelist as lent}
+use Rattle.program.specs.Weavelist.{maxInput, list-of, weavelist}
 
 pub listed-as : (n : ℕ) {o : Out} {a : Lowered} {m : Buffers} {s : List ℕ} {r : Sheet} → o ≡ out a m s → written n (listing a (m .code) (m .lines) (m .kinds) (m .values)) ≡ r → written n (list-of o) ≡ r
 listed-as n e f = ap (λ o. written n (list-of o)) e ∙ f

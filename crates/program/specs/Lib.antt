@@ -1,3 +1,4 @@
 pub mod Weavelist
 pub mod Laws
 pub mod Fits
+mod Rows

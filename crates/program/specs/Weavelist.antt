@@ -7,14 +7,11 @@ use lib.Dec.{leb}
 use Rattle.refusals.specs.Number.{numberOf}
 use Rattle.refusals.specs.declared.Refusal.the-variants as refusal
 use Rattle.buffers.specs.Pad.{pad}
-use Rattle.model.specs.Lowering.{Sizes, Out, lowered}
+use Rattle.model.specs.Lowering.{Out, lowered}
+use Rattle.model.specs.Rows.{weavelist as lent}
 use Rattle.listing.specs.declared.Listed.the-variants as listed
 use Rattle.listing.specs.Listing.{refusal-line, listing}
 use Rattle.listing.specs.Page.{Sheet, sheet}
-
--- the buffers that the program lends
-abbrev pub lent : Sizes
-lent = record { code = 8192; lines = 8192; kinds = 2048; values = 2048; pool = 32768; scratch = 16384 }
 
 abbrev pub maxInput : ℕ
 maxInput = 65536

@@ -1,7 +1,7 @@
--- Document 01, "Refused chunks": the number of each refusal. Assumes nothing.
+-- Document 01, "Refused chunks", and document 02: the number of each refusal. Assumes nothing.
 use Prim.Native.Nat.{ℕ}
 use Rattle.refusals.specs.declared.Refusal.{Refusal}
-use Rattle.refusals.specs.declared.Refusal.the-variants.{TooLong, Missing, Map, Kind, Nesting, Locals, Varargs, Trailing, Scratch, Registers, Constants, Pool, Words}
+use Rattle.refusals.specs.declared.Refusal.the-variants.{TooLong, Missing, Map, Kind, Nesting, Locals, Varargs, Trailing, Scratch, Registers, Constants, Pool, Words, Syntax, Digits, Room, Recording, Ended, Step, Carried, Head, Layout, Page, Accepted, Ratio, Rule}
 
 abbrev pub numberOf : Refusal → ℕ
 -- longer than 1,048,576 bytes
@@ -30,3 +30,29 @@ numberOf Constants = 11
 numberOf Pool = 12
 -- a word beyond the code or line buffer, or 131,071
 numberOf Words = 13
+-- a text that leaves the grammar (#101)
+numberOf Syntax = 14
+-- a numeral of more than 15 digits (#101)
+numberOf Digits = 15
+-- an output buffer too short for the nodes of a text (#101)
+numberOf Room = 16
+-- a recording that is cut short or breaks its form (#103)
+numberOf Recording = 17
+-- a recording that ends before the next outward step (#103)
+numberOf Ended = 18
+-- a next record of another kind than the outward step (#103)
+numberOf Step = 19
+-- more than 60 carried values (#105)
+numberOf Carried = 20
+-- a count of heads that isn't 1 to 8, or a head byte above 7 (#108)
+numberOf Head = 21
+-- a layout outside its ranges (#110)
+numberOf Layout = 22
+-- a formula of more words than a page holds, or a page of none (#111)
+numberOf Page = 23
+-- a chunk whose smallest refused part is sought, and that is accepted (#112)
+numberOf Accepted = 24
+-- a ratio over zero (#113)
+numberOf Ratio = 25
+-- a rule for a local that isn't there (#114)
+numberOf Rule = 26

@@ -1,4 +1,4 @@
-// The refusals of document 01, and the number that each has there.
+// The refusals of documents 01 (1 to 13) and 02 (14 to 26), and the number that each has there. Those of document 02 are given from the landing of their request on.
 ghost use mathlib.Core.Path.{_≡_};
 ghost use Rattle.refusals.specs.Number.{numberOf};
 
@@ -16,6 +16,19 @@ pub enum Refusal {
     Constants,
     Pool,
     Words,
+    Syntax,
+    Digits,
+    Room,
+    Recording,
+    Ended,
+    Step,
+    Carried,
+    Head,
+    Layout,
+    Page,
+    Accepted,
+    Ratio,
+    Rule,
 }
 
 impl Refusal {
@@ -37,6 +50,19 @@ impl Refusal {
             Refusal::Constants => 11,
             Refusal::Pool => 12,
             Refusal::Words => 13,
+            Refusal::Syntax => 14,
+            Refusal::Digits => 15,
+            Refusal::Room => 16,
+            Refusal::Recording => 17,
+            Refusal::Ended => 18,
+            Refusal::Step => 19,
+            Refusal::Carried => 20,
+            Refusal::Head => 21,
+            Refusal::Layout => 22,
+            Refusal::Page => 23,
+            Refusal::Accepted => 24,
+            Refusal::Ratio => 25,
+            Refusal::Rule => 26,
         }
     }
 }

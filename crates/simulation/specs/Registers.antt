@@ -83,7 +83,7 @@ module _ (Γ : Env) {s : State} {m : Buffers} {f : ℕ} (is : s .free ≡ f) whe
       k = max (s .frame) (s .free + n)
 
       go : (b : Bool) → leb (s .free + n) maxStack ≡ b → Ends (pick b (done (tt {0}) (with-free (s .free + n) (with-frame k s)) m) (refused Registers m)) (λ u s′ m′. (m′ ≡ m) × ((s .frame ≤ s′ .frame) × ((m₀ : Buffers) → Moves Γ s m₀ f s′ m₀ (f + n))))
-      go false e = refuses Registers m (omega arith) refl
+      go false e = refuses Registers m refl refl
       go true e = gives tt _ m refl (
         refl,
         (

@@ -1,16 +1,15 @@
--- What a step of the model ends in: it is refused, with a number of 10 or more, or it is done, and then its state and buffers hold represented code. Steps that only touch words and lists, as equations;
+-- What a step of the model ends in: it is refused as steps of a lowering are, or it is done, and then its state and buffers hold represented code. Steps that only touch words and lists, as equations;
 -- a word more is refused where no room is left. By computation of the model's steps.
 use Prim.Native.Nat.{ℕ, zero, suc, _+_, _<_, _≤_}
 use mathlib.Core.Bool.{Bool, true, false, _||_}
 use mathlib.Core.Path.{_≡_, refl, _∙_, ap}
 use mathlib.Core.List.{List}
 use native.Mathlib.Numerals.{add-one}
-use native.Mathlib.Omega.{arith}
 use lib.ListN.{length, set}
 use lib.Dec.{leb}
 use borrow.Author.Tests.{leb-false, le-leb}
 use lib.Seq.{set-set}
-use Rattle.refusals.specs.Number.{numberOf}
+use Rattle.refusals.specs.Stage.{stageOf, steps}
 use Rattle.refusals.specs.declared.Refusal.{Refusal}
 use Rattle.refusals.specs.declared.Refusal.the-variants.{Words}
 use Rattle.instructions.specs.Limits.{maxWords, noReg}
@@ -35,7 +34,7 @@ use Rattle.labelled.specs.Machine.{pick}
 -- refused as a lowering is, or done with this answer, state and buffers
 pub data Ends {A : Type 0} (r : Result A) (P : A → State → Buffers → Type 0) : Type 0 where
   gives : (a : A) (s : State) (m : Buffers) → r ≡ done a s m → P a s m → Ends r P
-  refuses : (k : Refusal) (m : Buffers) → 10 ≤ numberOf k → r ≡ refused k m → Ends r P
+  refuses : (k : Refusal) (m : Buffers) → stageOf k ≡ steps → r ≡ refused k m → Ends r P
 
 pub ends-then : {A B : Type 0} {r : Result A} {f : A → Step B} {P : A → State → Buffers → Type 0} {Q : B → State → Buffers → Type 0} →
     Ends r P → ((a : A) (s : State) (m : Buffers) → P a s m → Ends (f a s m) Q) → Ends (andThen r f) Q
@@ -142,7 +141,7 @@ module _ (s : State) (m : Buffers) where
   push-ends w line P p = rw (push-is w line s m) (go (no-room s m) refl)
     where
       go : (t : Bool) → no-room s m ≡ t → Ends (pick t (refused Words m) (done (s .pc) (with-pc (s .pc + 1) s) (store w line s m))) P
-      go true e = refuses Words m (omega arith) refl
+      go true e = refuses Words m refl refl
       go false e = gives (s .pc) (with-pc (s .pc + 1) s) (store w line s m) refl (p (roomy s m e .0) (roomy s m e .1 .1))
 
 pub emit-at-ends : (w line : ℕ) (s : State) (m : Buffers) (P : ℕ → State → Buffers → Type 0) →

@@ -1,11 +1,10 @@
 // Names of locals: rilua's `search_local`.
 ghost use mathlib.Core.Path.{_≡_};
-ghost use Prim.Native.Nat.{_+_, _≤_, _<_};
+ghost use Prim.Native.Nat.{_+_, _<_};
+ghost use Rattle.buffers.specs.Lent.{bytes};
 ghost use Rattle.constants.specs.Entry.{sameBytes};
 ghost use Rattle.cursor.specs.Fields.{bytesOf};
-ghost use Rattle.chunk.specs.Headers.{namesAt};
-ghost use Rattle.chunk.specs.Form.{namesOf};
-ghost use Rattle.model.specs.Expressions.{search-local};
+ghost use Rattle.model.specs.Expressions.{register-named};
 ghost use Rattle.variables.specs.Found.{foundIs, newest};
 use chunk::header::Header;
 use constants::Found;
@@ -14,7 +13,7 @@ use cursor::TextRead;
 
 // Whether two texts of the chunk have the same bytes.
 fn same_text(chunk: &[u8], a: Text, b: Text) -> bool
-    ensures { λ r. ⌜ sameBytes (bytesOf (now (chunk .entry)) a) (bytesOf (now (chunk .entry)) b) ≡ r ⌝ }
+    ensures { λ r. ⌜ sameBytes (bytesOf (bytes chunk) a) (bytesOf (bytes chunk) b) ≡ r ⌝ }
 {
     let i = a.start;
     let j = b.start;
@@ -27,7 +26,7 @@ fn same_text(chunk: &[u8], a: Text, b: Text) -> bool
 // i + 1 where the name there is the one sought, else what was found before.
 fn newer(chunk: &[u8], name: Text, sought: Text, i: usize, last: usize) -> usize
     requires { ⌜ i < 18446744073709551615 ⌝ }
-    ensures { λ r. ⌜ newest (now (chunk .entry)) (bytesOf (now (chunk .entry)) sought) name i last ≡ r ⌝ }
+    ensures { λ r. ⌜ newest (bytes chunk) (bytesOf (bytes chunk) sought) name i last ≡ r ⌝ }
 {
     if same_text(chunk, name, sought) {
         return i + 1;
@@ -37,7 +36,7 @@ fn newer(chunk: &[u8], name: Text, sought: Text, i: usize, last: usize) -> usize
 
 // The last local of this name: its register.
 pub fn search_local(chunk: &[u8], h: Header, t: Text) -> Found
-    ensures { λ r. ⌜ search-local (now (chunk .entry)) (bytesOf (now (chunk .entry)) t) (namesOf (namesAt (now (chunk .entry)) (h .locals) (h .names))) 0 ≡ foundIs r ⌝ }
+    ensures { λ r. ⌜ register-named (bytes chunk) h t ≡ foundIs r ⌝ }
 {
     let count = h.locals;
     let mut at = h.names;

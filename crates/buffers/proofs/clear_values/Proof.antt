@@ -1,8 +1,8 @@
 -- `buffers::clear_values` meets its contract: the invariant is `Cleared`, and the measure is what is left of the length. Assumes nothing.
 use Prim.Native.Nat.{_-_}
-use native.Mathlib.Omega.{arith}
 use lib.ListN.{length}
 use Rattle.buffers.proofs.Clearing.{Cleared, clear-none, clear-more, clear-all}
+use borrow.Author.Needs.{needs}
 use Rattle.buffers.proofs.clear_values.Statement.{statement}
 use Rattle.buffers.proofs.clear_values.Tie as tie
 
@@ -16,26 +16,37 @@ loop-holds : tie.Need-loop-holds Inv-loop μ-loop
 loop-holds c = clear-none _
 
 mul-s : tie.Need-mul-s Inv-loop μ-loop
-mul-s c = omega arith
+mul-s c = search needs
 
 slice-write-s : tie.Need-slice-write-s Inv-loop μ-loop
-slice-write-s c = omega arith
+slice-write-s c = search needs
 
 add-i : tie.Need-add-i Inv-loop μ-loop
-add-i c = omega arith
+add-i c = search needs
 
 loop-less : tie.Need-loop-less Inv-loop μ-loop
-loop-less c = omega arith
+loop-less c = search needs
 
 loop-again : tie.Need-loop-again Inv-loop μ-loop
 loop-again c = clear-more (c .before .loop .inv) (c .loop-test .taken)
 
 same-length : tie.Need-same-length Inv-loop μ-loop
-same-length c = omega arith
+same-length c = search needs
 
 returns : tie.Need-returns Inv-loop μ-loop
 returns c = clear-all (c .before .loop .inv) (c .loop-test .left)
 
 pub clear-values-spec : {M : Type 1} → statement M
 clear-values-spec =
-    tie.close (tie.spec Inv-loop μ-loop loop-holds mul-s slice-write-s add-i loop-less loop-again same-length returns)
+    tie.close
+    (tie.spec
+    Inv-loop
+    μ-loop
+    loop-holds
+    mul-s
+    slice-write-s
+    add-i
+    loop-less
+    loop-again
+    same-length
+    returns)

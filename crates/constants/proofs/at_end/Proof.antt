@@ -1,13 +1,15 @@
 -- `constants::at_end` meets its contract: the last bytes are compared where there are enough.
-use native.Mathlib.Omega.{arith}
 use denote.Ref.{now}
-use borrow.Author.Needs.{needs}
 use Rattle.constants.proofs.Steps.{part-rest, no-tail}
+use native.Mathlib.Omega.{arith}
+use borrow.Author.Needs.{needs}
 use Rattle.constants.proofs.at_end.Statement.{statement}
 use Rattle.constants.proofs.at_end.Tie as tie
 
 returns : tie.Need-returns
-returns c = let a = c .before .before .before .args in no-tail (now (a .pool)) (now (a .text)) (omega arith)
+returns c =
+    let p3 = c .before .before .before in
+    let a = (p3 .args) in no-tail (now (a .pool)) (now (a .text)) (omega arith)
 
 sub-same-bytes : tie.Need-sub-same-bytes
 sub-same-bytes c = search needs

@@ -3,12 +3,13 @@ use mathlib.Core.Path.{_∙_}
 use mathlib.Core.Bool.{_&&_, and-false}
 use mathlib.Core.Logic.{⊎-elim}
 use Prim.Native.Nat.{_-_, _/_, _%_}
-use native.Mathlib.Omega.{arith}
 use lib.Dec.{eqb}
 use borrow.Author.Count.{below-none, below-more}
 use borrow.Author.Tests.{eq-eqb, ne-eqb}
 use Rattle.constants.specs.Entry.{part, sameBytes}
 use Rattle.constants.proofs.Steps.{Passed, found-first, found-nowhere}
+use native.Mathlib.Omega.{arith}
+use borrow.Author.Needs.{needs}
 use Rattle.constants.proofs.find_each.Statement.{statement}
 use Rattle.constants.proofs.find_each.Tie as tie
 
@@ -22,36 +23,39 @@ loop-holds : tie.Need-loop-holds Inv-loop μ-loop
 loop-holds c = below-none _
 
 shared-slice-read-if1 : tie.Need-shared-slice-read-if1 Inv-loop μ-loop
-shared-slice-read-if1 c = omega arith
+shared-slice-read-if1 c = search needs
 
 mul-is-text : tie.Need-mul-is-text Inv-loop μ-loop
-mul-is-text c = omega arith
+mul-is-text c = search needs
 
 shared-slice-read-is-text : tie.Need-shared-slice-read-is-text Inv-loop μ-loop
-shared-slice-read-is-text c = omega arith
+shared-slice-read-is-text c = search needs
 
 is-text-requires : tie.Need-is-text-requires Inv-loop μ-loop
-is-text-requires c κs = tt
+is-text-requires c κs = search needs
 
 returns : tie.Need-returns Inv-loop μ-loop
 returns c =
-    let at = c .before .before .before .before .before .before .loop in
-    found-first _ _ _ _ (at .i) (omega arith) (omega arith) (omega arith) (at .inv) (rw (c .before .is-text .ensures ∙ c .if2 .taken) (eq-eqb _ _ (c .before .before .before .if1 .taken)))
+    let p3 = c .before .before .before in
+    let p6 = p3 .before .before .before in
+    let at = (p6 .loop) in
+    found-first _ _ _ _ (at .i) (omega arith) (omega arith) (omega arith) (at .inv) (rw ((c .before .is-text .ensures) ∙ (c .if2 .taken)) (eq-eqb _ _ (p3 .if1 .taken)))
 
 add-i : tie.Need-add-i Inv-loop μ-loop
-add-i c = omega arith
+add-i c = search needs
 
 loop-less : tie.Need-loop-less Inv-loop μ-loop
-loop-less c = omega arith
+loop-less c = search needs
 
 loop-again : tie.Need-loop-again Inv-loop μ-loop
 loop-again c =
-    below-more _ _ (c .before .before .before .loop .inv)
+    let p3 = c .before .before .before in
+    below-more _ _ (p3 .loop .inv)
     (⊎-elim (λ h. rw (h .2 .ensures ∙ h .3 .left)) (λ h. rw (ne-eqb _ _ (h .left), and-false)) (c .if1 .came))
 
 returns-2 : tie.Need-returns-2 Inv-loop μ-loop
 returns-2 c =
-    let at = c .before .loop in
+    let at = (c .before .loop) in
     found-nowhere _ _ _ _ (at .i) (omega arith) (at .inv)
 
 pub find-each-spec : {M : Type 1} → statement M

@@ -35,7 +35,9 @@ shared-slice-read-if3 : tie.Need-shared-slice-read-if3
 shared-slice-read-if3 c = search needs
 
 returns-3 : tie.Need-returns-3
-returns-3 c = rw (ne-eqb _ _ (c .before .before .before .before .if1 .left), ne-eqb _ _ (c .before .before .if2 .left), eq-eqb _ _ (c .if3 .taken))
+returns-3 c =
+    let p4 = c .before .before .before .before in
+    rw (ne-eqb _ _ (p4 .if1 .left), ne-eqb _ _ (c .before .before .if2 .left), eq-eqb _ _ (c .if3 .taken))
 
 add-result : tie.Need-add-result
 add-result c = search needs
@@ -47,7 +49,10 @@ shared-slice-read-result : tie.Need-shared-slice-read-result
 shared-slice-read-result c = search needs
 
 returns-4 : tie.Need-returns-4
-returns-4 c = rw (ne-eqb _ _ (c .before .before .before .before .before .if1 .left), ne-eqb _ _ (c .before .before .before .if2 .left), ne-eqb _ _ (c .before .if3 .left))
+returns-4 c =
+    let p3 = c .before .before .before in
+    let p5 = p3 .before .before in
+    rw (ne-eqb _ _ (p5 .if1 .left), ne-eqb _ _ (p3 .if2 .left), ne-eqb _ _ (c .before .if3 .left))
 
 pub in-four-spec : {M : Type 1} → statement M
 in-four-spec =

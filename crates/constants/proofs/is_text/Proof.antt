@@ -1,12 +1,12 @@
 -- `constants::is_text` meets its contract: the part that it compares is the one that the value names, and one that lies in the pool has the length that the value says.
 use mathlib.Core.Path.{_≡_, sym, ap, _∙_}
 use Prim.Native.Nat.{_+_, _-_, _/_, _%_}
-use native.Mathlib.Omega.{arith}
-use borrow.Author.Needs.{needs}
 use denote.Ref.{now}
 use lib.ListN.{length}
 use Rattle.constants.specs.Laws.{sameBytes-false}
 use Rattle.constants.proofs.Steps.{part-length}
+use native.Mathlib.Omega.{arith}
+use borrow.Author.Needs.{needs}
 use Rattle.constants.proofs.is_text.Statement.{statement}
 use Rattle.constants.proofs.is_text.Tie as tie
 
@@ -24,8 +24,9 @@ returns c = rw (c .before .part .ensures) (c .same-bytes .ensures)
 
 returns-2 : tie.Need-returns-2
 returns-2 c =
-    let a = c .before .before .before .before .args in
-    sameBytes-false _ _ (λ e. c .if2 .taken (sym (part-length (now (a .pool)) (a .value / 65536) (a .value % 65536) (omega arith)) ∙ ap length e))
+    let p4 = c .before .before .before .before in
+    let a = (p4 .args) in
+    sameBytes-false _ _ (λ e. (c .if2 .taken) (sym (part-length (now (a .pool)) (a .value / 65536) (a .value % 65536) (omega arith)) ∙ ap length e))
 
 sub-same-bytes : tie.Need-sub-same-bytes
 sub-same-bytes c = search needs
@@ -41,7 +42,8 @@ same-bytes-requires-2 c κs = search needs
 
 returns-3 : tie.Need-returns-3
 returns-3 c =
-    let a = c .before .before .before .before .before .before .args in
+    let p6 = c .before .before .before .before .before .before in
+    let a = (p6 .args) in
     let e : a .value / 65536 + a .value % 65536 - a .value / 65536 ≡ a .value % 65536 = omega arith in
     rw e at (c .same-bytes2 .ensures)
 

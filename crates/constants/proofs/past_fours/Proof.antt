@@ -1,11 +1,12 @@
 -- `constants::past_fours` meets its contract. The loop's invariant: none of the first i values is this one.
 use mathlib.Core.Path.{_∙_}
 use Prim.Native.Nat.{_≤_, _-_}
-use native.Mathlib.Omega.{arith}
 use denote.Ref.{now}
 use borrow.Author.Count.{below-none}
 use Rattle.constants.specs.Fours.{Without}
 use Rattle.constants.proofs.Steps.{without-four}
+use native.Mathlib.Omega.{arith}
+use borrow.Author.Needs.{needs}
 use Rattle.constants.proofs.past_fours.Statement.{statement}
 use Rattle.constants.proofs.past_fours.Tie as tie
 
@@ -19,25 +20,30 @@ loop-holds : tie.Need-loop-holds Inv-loop μ-loop
 loop-holds c = (omega arith, below-none _)
 
 sub-loop : tie.Need-sub-loop Inv-loop μ-loop
-sub-loop c = omega arith
+sub-loop c = search needs
 
 in-four-requires : tie.Need-in-four-requires Inv-loop μ-loop
-in-four-requires c κs = omega arith
+in-four-requires c κs = search needs
 
 returns : tie.Need-returns Inv-loop μ-loop
-returns c = c .before .before .before .loop .inv .1
+returns c =
+    let p3 = c .before .before .before in
+    (p3 .loop .inv .1)
 
 add-i : tie.Need-add-i Inv-loop μ-loop
-add-i c = omega arith
+add-i c = search needs
 
 loop-less : tie.Need-loop-less Inv-loop μ-loop
-loop-less c = omega arith
+loop-less c = search needs
 
 loop-again : tie.Need-loop-again Inv-loop μ-loop
-loop-again c = (omega arith, without-four (now (c .before .before .before .before .before .args .values)) _ _ (c .before .before .before .loop .inv .1) (c .before .in-four .ensures ∙ c .if1 .left))
+loop-again c =
+    let p3 = c .before .before .before in
+    let p5 = p3 .before .before in
+    (omega arith, without-four (now (p5 .args .values)) _ _ (p3 .loop .inv .1) ((c .before .in-four .ensures) ∙ (c .if1 .left)))
 
 returns-2 : tie.Need-returns-2 Inv-loop μ-loop
-returns-2 c = c .before .loop .inv .1
+returns-2 c = (c .before .loop .inv .1)
 
 pub past-fours-spec : {M : Type 1} → statement M
 past-fours-spec =

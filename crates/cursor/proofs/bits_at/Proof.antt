@@ -10,15 +10,15 @@ has-requires : tie.Need-has-requires
 has-requires c κs = search needs
 
 eight-requires : tie.Need-eight-requires
-eight-requires c κs = has-true _ _ _ (c .before .has .ensures ∙ c .if1 .taken)
+eight-requires c κs = has-true _ _ _ ((c .before .has .ensures) ∙ (c .if1 .taken))
 
 returns : tie.Need-returns
 unfolding bitsAt
-returns c = simp (bitsAt, c .before .before .has .ensures, c .before .if1 .taken, c .eight .ensures)
+returns c = simp (bitsAt, (c .before .before .has .ensures), (c .before .if1 .taken), (c .eight .ensures))
 
 returns-2 : tie.Need-returns-2
 unfolding bitsAt
-returns-2 c = simp (bitsAt, c .before .has .ensures, c .if1 .left)
+returns-2 c = simp (bitsAt, (c .before .has .ensures), (c .if1 .left))
 
 pub bits-at-spec : {M : Type 1} → statement M
 bits-at-spec = tie.close (tie.spec has-requires eight-requires returns returns-2)

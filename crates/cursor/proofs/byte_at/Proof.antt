@@ -1,8 +1,8 @@
 -- By whether the byte is there.
 use denote.Ref.{now}
-use native.Mathlib.Omega.{arith}
 use Rattle.cursor.specs.Fields.{byteAt}
 use Rattle.cursor.specs.Inside.{has-yes, has-no}
+use native.Mathlib.Omega.{arith}
 use borrow.Author.Needs.{needs}
 use Rattle.cursor.proofs.byte_at.Statement.{statement}
 use Rattle.cursor.proofs.byte_at.Tie as tie

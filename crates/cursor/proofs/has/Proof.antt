@@ -1,6 +1,6 @@
 -- at + n is compared with the length without a sum that could wrap.
-use native.Mathlib.Omega.{arith}
 use Rattle.cursor.specs.Inside.{has-yes, has-no}
+use native.Mathlib.Omega.{arith}
 use Rattle.cursor.proofs.has.Statement.{statement}
 use Rattle.cursor.proofs.has.Tie as tie
 

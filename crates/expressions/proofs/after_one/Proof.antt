@@ -3,8 +3,8 @@ use Rattle.model.specs.Expressions.{set-indexed}
 use Rattle.calls.specs.Laws.{keyed-refused, keyed-full, keyed-done}
 use Rattle.expressions.specs.Laws.{one-unary, one-field, one-paren}
 use mathlib.Core.Path.{_∙_}
-use native.Mathlib.Omega.{arith}
 use Rattle.discharge.specs.Laws.{given-told, described-told}
+use native.Mathlib.Omega.{arith}
 use borrow.Author.Needs.{needs}
 use Rattle.expressions.proofs.after_one.Statement.{statement}
 use Rattle.expressions.proofs.after_one.Tie as tie
@@ -72,35 +72,37 @@ returns c =
 same-length-6 : tie.Need-same-length-6
 same-length-6 c =
     let p10 = c .before .before .before .before .before .before .before .before .before .before in
-    let p43 = p10 .before .before .before .before .before .before .before .before .before .before .before .before .before .before .before .before .before .before .before .before .before .before .before .before .before .before .before .before .before .before .before .before .before in
-    omega (arith, (p43 .exp2anyreg .kept), (p10 .set-indexed .kept))
+    let p26 = p10 .before .before .before .before .before .before .before .before .before .before .before .before .before .before .before .before in
+    let p43 = p26 .before .before .before .before .before .before .before .before .before .before .before .before .before .before .before .before .before in
+    omega (arith, (p10 .set-indexed .kept), (p26 .string-constant .kept), (p43 .exp2anyreg .kept))
 
 same-length-7 : tie.Need-same-length-7
 same-length-7 c =
     let p10 = c .before .before .before .before .before .before .before .before .before .before in
-    let p43 = p10 .before .before .before .before .before .before .before .before .before .before .before .before .before .before .before .before .before .before .before .before .before .before .before .before .before .before .before .before .before .before .before .before .before in
-    omega (arith, (p43 .exp2anyreg .kept), (p10 .set-indexed .kept))
+    let p26 = p10 .before .before .before .before .before .before .before .before .before .before .before .before .before .before .before .before in
+    let p43 = p26 .before .before .before .before .before .before .before .before .before .before .before .before .before .before .before .before .before in
+    omega (arith, (p10 .set-indexed .kept), (p26 .string-constant .kept), (p43 .exp2anyreg .kept))
 
 same-length-8 : tie.Need-same-length-8
 same-length-8 c =
     let p10 = c .before .before .before .before .before .before .before .before .before .before in
     let p26 = p10 .before .before .before .before .before .before .before .before .before .before .before .before .before .before .before .before in
     let p43 = p26 .before .before .before .before .before .before .before .before .before .before .before .before .before .before .before .before .before in
-    omega (arith, (p43 .exp2anyreg .kept), (p26 .string-constant .kept), (p10 .set-indexed .kept))
+    omega (arith, (p10 .set-indexed .kept), (p26 .string-constant .kept), (p43 .exp2anyreg .kept))
 
 same-length-9 : tie.Need-same-length-9
 same-length-9 c =
     let p10 = c .before .before .before .before .before .before .before .before .before .before in
     let p26 = p10 .before .before .before .before .before .before .before .before .before .before .before .before .before .before .before .before in
     let p43 = p26 .before .before .before .before .before .before .before .before .before .before .before .before .before .before .before .before .before in
-    omega (arith, (p43 .exp2anyreg .kept), (p26 .string-constant .kept), (p10 .set-indexed .kept))
+    omega (arith, (p10 .set-indexed .kept), (p26 .string-constant .kept), (p43 .exp2anyreg .kept))
 
 same-length-10 : tie.Need-same-length-10
 same-length-10 c =
     let p10 = c .before .before .before .before .before .before .before .before .before .before in
     let p26 = p10 .before .before .before .before .before .before .before .before .before .before .before .before .before .before .before .before in
     let p43 = p26 .before .before .before .before .before .before .before .before .before .before .before .before .before .before .before .before .before in
-    omega (arith, (p43 .exp2anyreg .kept), (p26 .string-constant .kept), (p10 .set-indexed .kept))
+    omega (arith, (p10 .set-indexed .kept), (p26 .string-constant .kept), (p43 .exp2anyreg .kept))
 
 returns-2 : tie.Need-returns-2
 returns-2 c =
@@ -111,13 +113,13 @@ returns-2 c =
     let p31 = p26 .before .before .before .before .before in
     let p43 = p31 .before .before .before .before .before .before .before .before .before .before .before .before in
     let p50 = p43 .before .before .before .before .before .before .before in
-    λ h. rw (p50 .o2 .given .1) (one-field _ h _ _ _ _ ∙ keyed-done _ h set-indexed _ _ _ _ (described-told ((p43 .exp2anyreg .result)) _ (p43 .exp2anyreg .ensures) (p31 .table .given .1)) (given-told ((p26 .string-constant .result)) _ ((p26 .string-constant .ensures) h _ _) (p18 .answer .given .1)) ∙ rw (p16 .new .ensures) (p10 .set-indexed .ensures))
+    λ h. rw (p50 .o2 .given .1) (one-field _ h _ _ _ _ ∙ keyed-done _ h set-indexed _ _ _ _ (described-told (p43 .exp2anyreg .result) _ (p43 .exp2anyreg .ensures) (p31 .table .given .1)) (given-told (p26 .string-constant .result) _ ((p26 .string-constant .ensures) h _ _) (p18 .answer .given .1)) ∙ rw (p16 .new .ensures) (p10 .set-indexed .ensures))
 
 same-length-11 : tie.Need-same-length-11
 same-length-11 c =
     let p9 = c .before .before .before .before .before .before .before .before .before in
     let p26 = p9 .before .before .before .before .before .before .before .before .before .before .before .before .before .before .before .before .before in
-    omega (arith, (p26 .exp2anyreg .kept), (p9 .string-constant .kept))
+    omega (arith, (p9 .string-constant .kept), (p26 .exp2anyreg .kept))
 
 same-length-12 : tie.Need-same-length-12
 same-length-12 c = search needs
@@ -137,7 +139,7 @@ returns-3 c =
     let p14 = p9 .before .before .before .before .before in
     let p26 = p14 .before .before .before .before .before .before .before .before .before .before .before .before in
     let p33 = p26 .before .before .before .before .before .before .before in
-    λ h. rw (p33 .o2 .given .1) (one-field _ h _ _ _ _ ∙ keyed-full _ h set-indexed _ _ _ _ (described-told ((p26 .exp2anyreg .result)) _ (p26 .exp2anyreg .ensures) (p14 .table .given .1)) (given-told ((p9 .string-constant .result)) _ ((p9 .string-constant .ensures) h _ _) (c .before .answer2 .given .1)))
+    λ h. rw (p33 .o2 .given .1) (one-field _ h _ _ _ _ ∙ keyed-full _ h set-indexed _ _ _ _ (described-told (p26 .exp2anyreg .result) _ (p26 .exp2anyreg .ensures) (p14 .table .given .1)) (given-told (p9 .string-constant .result) _ ((p9 .string-constant .ensures) h _ _) (c .before .answer2 .given .1)))
 
 same-length-16 : tie.Need-same-length-16
 same-length-16 c = search needs
@@ -158,7 +160,7 @@ returns-4 : tie.Need-returns-4
 returns-4 c =
     let p13 = c .before .before .before .before .before .before .before .before .before .before .before .before .before in
     let p20 = p13 .before .before .before .before .before .before .before in
-    λ h. rw (p20 .o2 .given .1) (one-field _ h _ _ _ _ ∙ keyed-refused _ h set-indexed _ _ _ _ (described-told ((p13 .exp2anyreg .result)) _ (p13 .exp2anyreg .ensures) (c .before .table2 .given .1)))
+    λ h. rw (p20 .o2 .given .1) (one-field _ h _ _ _ _ ∙ keyed-refused _ h set-indexed _ _ _ _ (described-told (p13 .exp2anyreg .result) _ (p13 .exp2anyreg .ensures) (c .before .table2 .given .1)))
 
 same-length-21 : tie.Need-same-length-21
 same-length-21 c = search needs

@@ -1,7 +1,7 @@
 -- Each arm is the definition's clause; a zero divisor is tested as there.
-use borrow.Author.Needs.{needs}
 use lib.Ieee.{ofBits}
 use Rattle.folding.specs.Folding.{foldOf}
+use borrow.Author.Needs.{needs}
 use Rattle.folding.proofs.const_fold.Statement.{statement}
 use Rattle.folding.proofs.const_fold.Tie as tie
 
@@ -28,7 +28,7 @@ enum-told-4 c = search needs
 
 returns : tie.Need-returns
 unfolding foldOf ofBits
-returns c = rw (c .before .enum-told4 .given .1, c .if1 .taken)
+returns c = rw ((c .before .enum-told4 .given .1), (c .if1 .taken))
 
 result-requires-4 : tie.Need-result-requires-4
 result-requires-4 c κs = search needs
@@ -38,7 +38,7 @@ enum-told-5 c = search needs
 
 returns-2 : tie.Need-returns-2
 unfolding foldOf ofBits
-returns-2 c = rw (c .before .enum-told5 .given .1, c .if2 .taken)
+returns-2 c = rw ((c .before .enum-told5 .given .1), (c .if2 .taken))
 
 modulo-requires : tie.Need-modulo-requires
 modulo-requires c κs = search needs
@@ -69,11 +69,13 @@ returns-5 c = rw (c .before .enum-told3 .given .1) (c .result3 .ensures)
 
 returns-6 : tie.Need-returns-6
 unfolding foldOf ofBits
-returns-6 c = rw (c .before .before .enum-told4 .given .1, c .before .if1 .left) (c .result4 .ensures)
+returns-6 c = rw ((c .before .before .enum-told4 .given .1), (c .before .if1 .left)) (c .result4 .ensures)
 
 returns-7 : tie.Need-returns-7
 unfolding foldOf ofBits
-returns-7 c = rw (c .before .before .before .enum-told5 .given .1, c .before .before .if2 .left, c .before .modulo .ensures) (c .result5 .ensures)
+returns-7 c =
+    let p3 = c .before .before .before in
+    rw ((p3 .enum-told5 .given .1), (c .before .before .if2 .left), (c .before .modulo .ensures)) (c .result5 .ensures)
 
 returns-8 : tie.Need-returns-8
 unfolding foldOf

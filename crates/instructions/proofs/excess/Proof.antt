@@ -1,7 +1,7 @@
 -- `instructions::excess` meets its contract: what is added is 131,071 modulo the field, and large enough for every `i32`. Assumes nothing.
-use borrow.Author.Needs.{needs}
-use native.Mathlib.Omega.{arith}
 use Rattle.instructions.proofs.Signed.{wider, sum-fits, not-less, modulo}
+use native.Mathlib.Omega.{arith}
+use borrow.Author.Needs.{needs}
 use Rattle.instructions.proofs.excess.Statement.{statement}
 use Rattle.instructions.proofs.excess.Tie as tie
 

@@ -1,6 +1,6 @@
 -- `instructions::field` meets its contract: `getAt` is what it computes. Assumes nothing.
-use borrow.Author.Needs.{needs}
 use Rattle.instructions.specs.Field.{getAt}
+use borrow.Author.Needs.{needs}
 use Rattle.instructions.proofs.field.Statement.{statement}
 use Rattle.instructions.proofs.field.Tie as tie
 

@@ -1,10 +1,10 @@
 -- `instructions::with_field` meets its contract: the whole is below 2 ^ 32 by `set-lt`, and so is each part of it. Assumes nothing.
-use borrow.Author.Needs.{needs}
 use Prim.Native.Nat.{_+_, _*_, _/_, _%_, _<_, _^_}
-use native.Mathlib.Omega.{arith}
 use native.Mathlib.Nat.{le-mul-of-pos-right}
 use Rattle.instructions.specs.Field.{setAt}
 use Rattle.instructions.specs.Laws.{set-lt}
+use native.Mathlib.Omega.{arith}
+use borrow.Author.Needs.{needs}
 use Rattle.instructions.proofs.with_field.Statement.{statement}
 use Rattle.instructions.proofs.with_field.Tie as tie
 
@@ -28,24 +28,24 @@ div-result-2 : tie.Need-div-result-2
 div-result-2 c = search needs
 
 mul-result : tie.Need-mul-result
-mul-result c = omega (arith, upper c)
+mul-result c = omega (arith, upper (c))
 
 rem-result : tie.Need-rem-result
 rem-result c = search needs
 
 add-result : tie.Need-add-result
-add-result c = omega (arith, upper c)
+add-result c = omega (arith, upper (c))
 
 mul-result-2 : tie.Need-mul-result-2
 unfolding setAt
-mul-result-2 c = omega (arith, whole c)
+mul-result-2 c = omega (arith, whole (c))
 
 rem-result-2 : tie.Need-rem-result-2
 rem-result-2 c = search needs
 
 add-result-2 : tie.Need-add-result-2
 unfolding setAt
-add-result-2 c = omega (arith, whole c)
+add-result-2 c = omega (arith, whole (c))
 
 returns : tie.Need-returns
 unfolding setAt

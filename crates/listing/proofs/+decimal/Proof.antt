@@ -1,6 +1,7 @@
 -- `listing::decimal` meets its contract, as a function that calls itself with one digit less; the digits left are what falls. Assumes nothing.
-use native.Mathlib.Omega.{arith}
 use Rattle.listing.specs.Laws.{decimal-none, decimal-small, decimal-large}
+use native.Mathlib.Omega.{arith}
+use borrow.Author.Needs.{needs}
 use Prim.Native.Nat.{ℕ, _<_}
 use borrow.Fn.Kinds.{In}
 use borrow.Fn.PlainCycle.{Measures, is, falls, and}
@@ -13,7 +14,7 @@ use Rattle.listing.proofs.+decimal.{statement}
 use Rattle.listing.proofs.+decimal.Tie.{close}
 
 abbrev μ-decimal : Measures 1 decimal-kinds.ps ℕ
-μ-decimal κs a = a .1 .1 .1 .0
+μ-decimal κs a = (a .1 .1 .1 .0)
 
 abbrev decimal-at : ℕ → In 1 decimal-kinds.ps
 decimal-at t = and 1 decimal-kinds.ps (is 1 decimal-kinds.ps μ-decimal t) decimal.Pre
@@ -21,122 +22,53 @@ decimal-at t = and 1 decimal-kinds.ps (is 1 decimal-kinds.ps μ-decimal t) decim
 abbrev decimal-below : ℕ → In 1 decimal-kinds.ps
 decimal-below t = and 1 decimal-kinds.ps (falls 1 decimal-kinds.ps _<_ μ-decimal t) decimal.Pre
 
-decimal-returns : (t : ℕ) → decimal-lts.Need-returns (
+abbrev decimal-claims : ℕ → decimal-lts.Claims
+decimal-claims t = (
   decimal-digit-reads.Asked,
   decimal-digit-reads.Learnt,
   put-reads.Asked,
   put-reads.Learnt,
   decimal-below t,
   decimal.Post,
-) (decimal-at t) decimal.Post
+)
+
+decimal-returns : (t : ℕ) → decimal-lts.Need-returns (decimal-claims t) (decimal-at t) decimal.Post
 decimal-returns t c = decimal-none _ _ _ _ (c .if1 .taken)
 
-decimal-decimal-digit-requires : (t : ℕ) → decimal-lts.Need-decimal-digit-requires (
-  decimal-digit-reads.Asked,
-  decimal-digit-reads.Learnt,
-  put-reads.Asked,
-  put-reads.Learnt,
-  decimal-below t,
-  decimal.Post,
-) (decimal-at t) decimal.Post
-decimal-decimal-digit-requires t c κs = tt
+decimal-decimal-digit-requires : (t : ℕ) → decimal-lts.Need-decimal-digit-requires (decimal-claims t) (decimal-at t) decimal.Post
+decimal-decimal-digit-requires t c κs = search needs
 
-decimal-put-requires : (t : ℕ) → decimal-lts.Need-put-requires (
-  decimal-digit-reads.Asked,
-  decimal-digit-reads.Learnt,
-  put-reads.Asked,
-  put-reads.Learnt,
-  decimal-below t,
-  decimal.Post,
-) (decimal-at t) decimal.Post
-decimal-put-requires t c κs = tt
+decimal-put-requires : (t : ℕ) → decimal-lts.Need-put-requires (decimal-claims t) (decimal-at t) decimal.Post
+decimal-put-requires t c κs = search needs
 
-decimal-same-length : (t : ℕ) → decimal-lts.Need-same-length (
-  decimal-digit-reads.Asked,
-  decimal-digit-reads.Learnt,
-  put-reads.Asked,
-  put-reads.Learnt,
-  decimal-below t,
-  decimal.Post,
-) (decimal-at t) decimal.Post
-decimal-same-length t c = omega (arith, (c .before .before .put .kept))
+decimal-same-length : (t : ℕ) → decimal-lts.Need-same-length (decimal-claims t) (decimal-at t) decimal.Post
+decimal-same-length t c = search needs
 
-decimal-returns-2 : (t : ℕ) → decimal-lts.Need-returns-2 (
-  decimal-digit-reads.Asked,
-  decimal-digit-reads.Learnt,
-  put-reads.Asked,
-  put-reads.Learnt,
-  decimal-below t,
-  decimal.Post,
-) (decimal-at t) decimal.Post
+decimal-returns-2 : (t : ℕ) → decimal-lts.Need-returns-2 (decimal-claims t) (decimal-at t) decimal.Post
 decimal-returns-2 t c =
     let p3 = c .before .before .before in
     let p5 = p3 .before .before in
     let p6 = p5 .before in
     decimal-small _ _ _ _ (p6 .if1 .left) (p5 .if2 .taken) (p3 .decimal-digit .ensures) (c .before .before .put .ensures)
 
-decimal-sub-decimal : (t : ℕ) → decimal-lts.Need-sub-decimal (
-  decimal-digit-reads.Asked,
-  decimal-digit-reads.Learnt,
-  put-reads.Asked,
-  put-reads.Learnt,
-  decimal-below t,
-  decimal.Post,
-) (decimal-at t) decimal.Post
-decimal-sub-decimal t c = omega (arith, (c .before .before .if1 .left))
+decimal-sub-decimal : (t : ℕ) → decimal-lts.Need-sub-decimal (decimal-claims t) (decimal-at t) decimal.Post
+decimal-sub-decimal t c = search needs
 
-decimal-decimal-requires : (t : ℕ) → decimal-lts.Need-decimal-requires (
-  decimal-digit-reads.Asked,
-  decimal-digit-reads.Learnt,
-  put-reads.Asked,
-  put-reads.Learnt,
-  decimal-below t,
-  decimal.Post,
-) (decimal-at t) decimal.Post
+decimal-decimal-requires : (t : ℕ) → decimal-lts.Need-decimal-requires (decimal-claims t) (decimal-at t) decimal.Post
 decimal-decimal-requires t c κs =
     let p4 = c .before .before .before .before in
     (omega (arith, (p4 .pre .0), (c .before .before .if1 .left)), tt)
 
-decimal-decimal-digit-requires-2 : (t : ℕ) → decimal-lts.Need-decimal-digit-requires-2 (
-  decimal-digit-reads.Asked,
-  decimal-digit-reads.Learnt,
-  put-reads.Asked,
-  put-reads.Learnt,
-  decimal-below t,
-  decimal.Post,
-) (decimal-at t) decimal.Post
-decimal-decimal-digit-requires-2 t c κs = tt
+decimal-decimal-digit-requires-2 : (t : ℕ) → decimal-lts.Need-decimal-digit-requires-2 (decimal-claims t) (decimal-at t) decimal.Post
+decimal-decimal-digit-requires-2 t c κs = search needs
 
-decimal-put-requires-2 : (t : ℕ) → decimal-lts.Need-put-requires-2 (
-  decimal-digit-reads.Asked,
-  decimal-digit-reads.Learnt,
-  put-reads.Asked,
-  put-reads.Learnt,
-  decimal-below t,
-  decimal.Post,
-) (decimal-at t) decimal.Post
-decimal-put-requires-2 t c κs = tt
+decimal-put-requires-2 : (t : ℕ) → decimal-lts.Need-put-requires-2 (decimal-claims t) (decimal-at t) decimal.Post
+decimal-put-requires-2 t c κs = search needs
 
-decimal-same-length-2 : (t : ℕ) → decimal-lts.Need-same-length-2 (
-  decimal-digit-reads.Asked,
-  decimal-digit-reads.Learnt,
-  put-reads.Asked,
-  put-reads.Learnt,
-  decimal-below t,
-  decimal.Post,
-) (decimal-at t) decimal.Post
-decimal-same-length-2 t c =
-    let p7 = c .before .before .before .before .before .before .before in
-    omega (arith, (c .before .before .put2 .kept), (p7 .decimal .kept))
+decimal-same-length-2 : (t : ℕ) → decimal-lts.Need-same-length-2 (decimal-claims t) (decimal-at t) decimal.Post
+decimal-same-length-2 t c = search needs
 
-decimal-returns-3 : (t : ℕ) → decimal-lts.Need-returns-3 (
-  decimal-digit-reads.Asked,
-  decimal-digit-reads.Learnt,
-  put-reads.Asked,
-  put-reads.Learnt,
-  decimal-below t,
-  decimal.Post,
-) (decimal-at t) decimal.Post
+decimal-returns-3 : (t : ℕ) → decimal-lts.Need-returns-3 (decimal-claims t) (decimal-at t) decimal.Post
 decimal-returns-3 t c =
     let p3 = c .before .before .before in
     let p7 = p3 .before .before .before .before in
@@ -145,14 +77,7 @@ decimal-returns-3 t c =
     decimal-large _ _ _ _ (p10 .if1 .left) (p9 .if2 .left) (p7 .decimal .ensures) (p3 .decimal-digit2 .ensures) (c .before .before .put2 .ensures)
 
 pub +decimal-spec : {M : Type 1} → statement M
-+decimal-spec = close μ-decimal λ t. decimal-lts.spec (
-  decimal-digit-reads.Asked,
-  decimal-digit-reads.Learnt,
-  put-reads.Asked,
-  put-reads.Learnt,
-  decimal-below t,
-  decimal.Post,
-)
++decimal-spec = close μ-decimal λ t. decimal-lts.spec (decimal-claims t)
     (decimal-at t)
     decimal.Post
     (decimal-returns t)

@@ -1,6 +1,7 @@
 -- `listing::hex` meets its contract, as a function that calls itself with one digit less; the digits left are what falls. Assumes nothing.
-use native.Mathlib.Omega.{arith}
 use Rattle.listing.specs.Laws.{hex-none, hex-more}
+use native.Mathlib.Omega.{arith}
+use borrow.Author.Needs.{needs}
 use Prim.Native.Nat.{ℕ, _<_}
 use borrow.Fn.Kinds.{In}
 use borrow.Fn.PlainCycle.{Measures, is, falls, and}
@@ -13,7 +14,7 @@ use Rattle.listing.proofs.+hex.{statement}
 use Rattle.listing.proofs.+hex.Tie.{close}
 
 abbrev μ-hex : Measures 1 hex-kinds.ps ℕ
-μ-hex κs a = a .1 .1 .1 .0
+μ-hex κs a = (a .1 .1 .1 .0)
 
 abbrev hex-at : ℕ → In 1 hex-kinds.ps
 hex-at t = and 1 hex-kinds.ps (is 1 hex-kinds.ps μ-hex t) hex.Pre
@@ -21,86 +22,8 @@ hex-at t = and 1 hex-kinds.ps (is 1 hex-kinds.ps μ-hex t) hex.Pre
 abbrev hex-below : ℕ → In 1 hex-kinds.ps
 hex-below t = and 1 hex-kinds.ps (falls 1 hex-kinds.ps _<_ μ-hex t) hex.Pre
 
-hex-returns : (t : ℕ) → hex-lts.Need-returns (
-  hex-below t,
-  hex.Post,
-  hex-digit-reads.Asked,
-  hex-digit-reads.Learnt,
-  put-reads.Asked,
-  put-reads.Learnt,
-) (hex-at t) hex.Post
-hex-returns t c = hex-none _ _ _ _ (c .if1 .taken)
-
-hex-sub-hex : (t : ℕ) → hex-lts.Need-sub-hex (
-  hex-below t,
-  hex.Post,
-  hex-digit-reads.Asked,
-  hex-digit-reads.Learnt,
-  put-reads.Asked,
-  put-reads.Learnt,
-) (hex-at t) hex.Post
-hex-sub-hex t c = omega (arith, (c .before .if1 .left))
-
-hex-hex-requires : (t : ℕ) → hex-lts.Need-hex-requires (
-  hex-below t,
-  hex.Post,
-  hex-digit-reads.Asked,
-  hex-digit-reads.Learnt,
-  put-reads.Asked,
-  put-reads.Learnt,
-) (hex-at t) hex.Post
-hex-hex-requires t c κs =
-    let p3 = c .before .before .before in
-    (omega (arith, (p3 .pre .0), (c .before .if1 .left)), tt)
-
-hex-hex-digit-requires : (t : ℕ) → hex-lts.Need-hex-digit-requires (
-  hex-below t,
-  hex.Post,
-  hex-digit-reads.Asked,
-  hex-digit-reads.Learnt,
-  put-reads.Asked,
-  put-reads.Learnt,
-) (hex-at t) hex.Post
-hex-hex-digit-requires t c κs = tt
-
-hex-put-requires : (t : ℕ) → hex-lts.Need-put-requires (
-  hex-below t,
-  hex.Post,
-  hex-digit-reads.Asked,
-  hex-digit-reads.Learnt,
-  put-reads.Asked,
-  put-reads.Learnt,
-) (hex-at t) hex.Post
-hex-put-requires t c κs = tt
-
-hex-same-length : (t : ℕ) → hex-lts.Need-same-length (
-  hex-below t,
-  hex.Post,
-  hex-digit-reads.Asked,
-  hex-digit-reads.Learnt,
-  put-reads.Asked,
-  put-reads.Learnt,
-) (hex-at t) hex.Post
-hex-same-length t c =
-    let p7 = c .before .before .before .before .before .before .before in
-    omega (arith, (c .before .before .put .kept), (p7 .hex .kept))
-
-hex-returns-2 : (t : ℕ) → hex-lts.Need-returns-2 (
-  hex-below t,
-  hex.Post,
-  hex-digit-reads.Asked,
-  hex-digit-reads.Learnt,
-  put-reads.Asked,
-  put-reads.Learnt,
-) (hex-at t) hex.Post
-hex-returns-2 t c =
-    let p3 = c .before .before .before in
-    let p7 = p3 .before .before .before .before in
-    let p9 = p7 .before .before in
-    hex-more _ _ _ _ (p9 .if1 .left) (p7 .hex .ensures) (p3 .hex-digit .ensures) (c .before .before .put .ensures)
-
-pub +hex-spec : {M : Type 1} → statement M
-+hex-spec = close μ-hex λ t. hex-lts.spec (
+abbrev hex-claims : ℕ → hex-lts.Claims
+hex-claims t = (
   hex-below t,
   hex.Post,
   hex-digit-reads.Asked,
@@ -108,6 +31,36 @@ pub +hex-spec : {M : Type 1} → statement M
   put-reads.Asked,
   put-reads.Learnt,
 )
+
+hex-returns : (t : ℕ) → hex-lts.Need-returns (hex-claims t) (hex-at t) hex.Post
+hex-returns t c = hex-none _ _ _ _ (c .if1 .taken)
+
+hex-sub-hex : (t : ℕ) → hex-lts.Need-sub-hex (hex-claims t) (hex-at t) hex.Post
+hex-sub-hex t c = search needs
+
+hex-hex-requires : (t : ℕ) → hex-lts.Need-hex-requires (hex-claims t) (hex-at t) hex.Post
+hex-hex-requires t c κs =
+    let p3 = c .before .before .before in
+    (omega (arith, (p3 .pre .0), (c .before .if1 .left)), tt)
+
+hex-hex-digit-requires : (t : ℕ) → hex-lts.Need-hex-digit-requires (hex-claims t) (hex-at t) hex.Post
+hex-hex-digit-requires t c κs = search needs
+
+hex-put-requires : (t : ℕ) → hex-lts.Need-put-requires (hex-claims t) (hex-at t) hex.Post
+hex-put-requires t c κs = search needs
+
+hex-same-length : (t : ℕ) → hex-lts.Need-same-length (hex-claims t) (hex-at t) hex.Post
+hex-same-length t c = search needs
+
+hex-returns-2 : (t : ℕ) → hex-lts.Need-returns-2 (hex-claims t) (hex-at t) hex.Post
+hex-returns-2 t c =
+    let p3 = c .before .before .before in
+    let p7 = p3 .before .before .before .before in
+    let p9 = p7 .before .before in
+    hex-more _ _ _ _ (p9 .if1 .left) (p7 .hex .ensures) (p3 .hex-digit .ensures) (c .before .before .put .ensures)
+
+pub +hex-spec : {M : Type 1} → statement M
++hex-spec = close μ-hex λ t. hex-lts.spec (hex-claims t)
     (hex-at t)
     hex.Post
     (hex-returns t)

@@ -1,6 +1,6 @@
 -- `listing::constant_line` meets its contract: a line put in parts, one behind the other, is the line put whole. Assumes nothing.
-use native.Mathlib.Omega.{arith}
 use Rattle.listing.specs.Laws.{puts-then, puts-one}
+use native.Mathlib.Omega.{arith}
 use borrow.Author.Needs.{needs}
 use Rattle.listing.proofs.constant_line.Statement.{statement}
 use Rattle.listing.proofs.constant_line.Tie as tie
@@ -34,7 +34,7 @@ same-length c =
     let p18 = p14 .before .before .before .before in
     let p22 = p18 .before .before .before .before in
     let p26 = p22 .before .before .before .before in
-    omega (arith, (p26 .put .kept), (p22 .number .kept), (p18 .put2 .kept), (p14 .number2 .kept), (p10 .put3 .kept), (p6 .hex .kept), (c .before .before .put4 .kept))
+    omega (arith, (c .before .before .put4 .kept), (p6 .hex .kept), (p10 .put3 .kept), (p14 .number2 .kept), (p18 .put2 .kept), (p22 .number .kept), (p26 .put .kept))
 
 returns : tie.Need-returns
 returns c =
@@ -44,7 +44,7 @@ returns c =
     let p18 = p14 .before .before .before .before in
     let p22 = p18 .before .before .before .before in
     let p26 = p22 .before .before .before .before in
-    (puts-then _ _ _ _ (puts-one _ _ _ (p26 .put .ensures)) (puts-then _ _ _ _ (p22 .number .ensures) (puts-then _ _ _ _ (puts-one _ _ _ (p18 .put2 .ensures)) (puts-then _ _ _ _ (p14 .number2 .ensures) (puts-then _ _ _ _ (puts-one _ _ _ (p10 .put3 .ensures)) (puts-then _ _ _ _ (p6 .hex .ensures) (puts-one _ _ _ (c .before .before .put4 .ensures))))))))
+    puts-then _ _ _ _ (puts-one _ _ _ (p26 .put .ensures)) (puts-then _ _ _ _ (p22 .number .ensures) (puts-then _ _ _ _ (puts-one _ _ _ (p18 .put2 .ensures)) (puts-then _ _ _ _ (p14 .number2 .ensures) (puts-then _ _ _ _ (puts-one _ _ _ (p10 .put3 .ensures)) (puts-then _ _ _ _ (p6 .hex .ensures) (puts-one _ _ _ (c .before .before .put4 .ensures)))))))
 
 pub constant-line-spec : {M : Type 1} → statement M
 constant-line-spec =

@@ -1,6 +1,6 @@
 -- `listing::count_line` meets its contract: a line put in parts, one behind the other, is the line put whole. Assumes nothing.
-use native.Mathlib.Omega.{arith}
 use Rattle.listing.specs.Laws.{puts-then, puts-one}
+use native.Mathlib.Omega.{arith}
 use borrow.Author.Needs.{needs}
 use Rattle.listing.proofs.count_line.Statement.{statement}
 use Rattle.listing.proofs.count_line.Tie as tie
@@ -43,7 +43,7 @@ same-length c =
     let p19 = p15 .before .before .before .before in
     let p24 = p19 .before .before .before .before .before in
     let p28 = p24 .before .before .before .before in
-    omega (arith, (p28 .text .kept), (p24 .number .kept), (p19 .text2 .kept), (p15 .number2 .kept), (p10 .text3 .kept), (p6 .number3 .kept), (c .before .before .put .kept))
+    omega (arith, (c .before .before .put .kept), (p6 .number3 .kept), (p10 .text3 .kept), (p15 .number2 .kept), (p19 .text2 .kept), (p24 .number .kept), (p28 .text .kept))
 
 returns : tie.Need-returns
 returns c =
@@ -53,7 +53,7 @@ returns c =
     let p19 = p15 .before .before .before .before in
     let p24 = p19 .before .before .before .before .before in
     let p28 = p24 .before .before .before .before in
-    (puts-then _ _ _ _ (p28 .text .ensures) (puts-then _ _ _ _ (p24 .number .ensures) (puts-then _ _ _ _ (p19 .text2 .ensures) (puts-then _ _ _ _ (p15 .number2 .ensures) (puts-then _ _ _ _ (p10 .text3 .ensures) (puts-then _ _ _ _ (p6 .number3 .ensures) (puts-one _ _ _ (c .before .before .put .ensures))))))))
+    puts-then _ _ _ _ (p28 .text .ensures) (puts-then _ _ _ _ (p24 .number .ensures) (puts-then _ _ _ _ (p19 .text2 .ensures) (puts-then _ _ _ _ (p15 .number2 .ensures) (puts-then _ _ _ _ (p10 .text3 .ensures) (puts-then _ _ _ _ (p6 .number3 .ensures) (puts-one _ _ _ (c .before .before .put .ensures)))))))
 
 pub count-line-spec : {M : Type 1} → statement M
 count-line-spec =

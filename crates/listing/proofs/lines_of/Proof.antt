@@ -1,5 +1,4 @@
 -- `listing::lines_of` meets its contract: the counts' line, the words' and the constants' one behind the other, or the refusal's. Assumes nothing.
-use native.Mathlib.Omega.{arith}
 use Rattle.listing.specs.Laws.{puts-then, refusal-told}
 use borrow.Author.Needs.{needs}
 use Rattle.listing.proofs.lines_of.Statement.{statement}
@@ -30,10 +29,7 @@ refusal-line-requires : tie.Need-refusal-line-requires
 refusal-line-requires c κs = search needs
 
 same-length : tie.Need-same-length
-same-length c =
-    let p6 = c .before .before .before .before .before .before in
-    let p10 = p6 .before .before .before .before in
-    omega (arith, (p10 .count-line .kept), (p6 .words .kept), (c .before .before .constants .kept))
+same-length c = search needs
 
 returns : tie.Need-returns
 returns c =

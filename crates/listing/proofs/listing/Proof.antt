@@ -1,6 +1,6 @@
 -- `listing::listing` meets its contract: on a cleared buffer the whole list and then zeros, or, where there was no room for it, zeros again. Assumes nothing.
-use native.Mathlib.Omega.{arith}
 use Rattle.listing.specs.Laws.{listed-whole, listed-not}
+use native.Mathlib.Omega.{arith}
 use borrow.Author.Needs.{needs}
 use Rattle.listing.proofs.listing.Statement.{statement}
 use Rattle.listing.proofs.listing.Tie as tie

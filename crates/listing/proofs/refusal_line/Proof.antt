@@ -1,5 +1,4 @@
 -- `listing::refusal_line` meets its contract: a line put in parts, one behind the other, is the line put whole. Assumes nothing.
-use native.Mathlib.Omega.{arith}
 use Rattle.listing.specs.Laws.{puts-then, puts-one}
 use borrow.Author.Needs.{needs}
 use Rattle.listing.proofs.refusal_line.Statement.{statement}
@@ -18,16 +17,13 @@ put-requires : tie.Need-put-requires
 put-requires c κs = search needs
 
 same-length : tie.Need-same-length
-same-length c =
-    let p6 = c .before .before .before .before .before .before in
-    let p10 = p6 .before .before .before .before in
-    omega (arith, (p10 .text .kept), (p6 .number .kept), (c .before .before .put .kept))
+same-length c = search needs
 
 returns : tie.Need-returns
 returns c =
     let p6 = c .before .before .before .before .before .before in
     let p10 = p6 .before .before .before .before in
-    (puts-then _ _ _ _ (p10 .text .ensures) (puts-then _ _ _ _ (p6 .number .ensures) (puts-one _ _ _ (c .before .before .put .ensures))))
+    puts-then _ _ _ _ (p10 .text .ensures) (puts-then _ _ _ _ (p6 .number .ensures) (puts-one _ _ _ (c .before .before .put .ensures)))
 
 pub refusal-line-spec : {M : Type 1} → statement M
 refusal-line-spec =

@@ -1,11 +1,11 @@
 -- `listing::text` meets its contract: before each turn, what is still to be put, put here, is the whole text put at the start. Assumes nothing.
 use Prim.Native.Nat.{_-_}
 use mathlib.Core.Path.{_≡_, refl, sym, _∙_}
-use native.Mathlib.Omega.{arith}
 use lib.ListN.{length, drop}
-use borrow.Author.Needs.{needs}
 use Rattle.listing.specs.Page.{puts}
 use Rattle.listing.specs.Laws.{text-turn, text-all}
+use native.Mathlib.Omega.{arith}
+use borrow.Author.Needs.{needs}
 use Rattle.listing.proofs.text.Statement.{statement}
 use Rattle.listing.proofs.text.Tie as tie
 
@@ -28,9 +28,7 @@ add-i : tie.Need-add-i Inv-loop μ-loop
 add-i c = search needs
 
 loop-less : tie.Need-loop-less Inv-loop μ-loop
-loop-less c =
-    let p5 = c .before .before .before .before .before in
-    omega (arith, (p5 .loop-test .taken))
+loop-less c = search needs
 
 loop-again : tie.Need-loop-again Inv-loop μ-loop
 loop-again c =
@@ -39,7 +37,7 @@ loop-again c =
     (text-turn _ _ _ _ (p5 .loop-test .taken) (c .before .before .put .ensures) ∙ (p6 .loop .inv .0), omega (arith, (p6 .loop .inv .1), (c .before .before .put .kept)))
 
 same-length : tie.Need-same-length Inv-loop μ-loop
-same-length c = omega (arith, (c .before .loop .inv .1))
+same-length c = search needs
 
 returns : tie.Need-returns Inv-loop μ-loop
 returns c = sym (c .before .loop .inv .0) ∙ text-all _ _ _ _ (c .loop-test .left)

@@ -1,5 +1,4 @@
 -- `listing::word_line` meets its contract: a line put in parts, one behind the other, is the line put whole. Assumes nothing.
-use native.Mathlib.Omega.{arith}
 use Rattle.listing.specs.Laws.{puts-then, puts-one}
 use borrow.Author.Needs.{needs}
 use Rattle.listing.proofs.word_line.Statement.{statement}
@@ -24,13 +23,7 @@ put-requires-3 : tie.Need-put-requires-3
 put-requires-3 c κs = search needs
 
 same-length : tie.Need-same-length
-same-length c =
-    let p6 = c .before .before .before .before .before .before in
-    let p10 = p6 .before .before .before .before in
-    let p14 = p10 .before .before .before .before in
-    let p18 = p14 .before .before .before .before in
-    let p22 = p18 .before .before .before .before in
-    omega (arith, (p22 .number .kept), (p18 .put .kept), (p14 .number2 .kept), (p10 .put2 .kept), (p6 .hex .kept), (c .before .before .put3 .kept))
+same-length c = search needs
 
 returns : tie.Need-returns
 returns c =
@@ -39,7 +32,7 @@ returns c =
     let p14 = p10 .before .before .before .before in
     let p18 = p14 .before .before .before .before in
     let p22 = p18 .before .before .before .before in
-    (puts-then _ _ _ _ (p22 .number .ensures) (puts-then _ _ _ _ (puts-one _ _ _ (p18 .put .ensures)) (puts-then _ _ _ _ (p14 .number2 .ensures) (puts-then _ _ _ _ (puts-one _ _ _ (p10 .put2 .ensures)) (puts-then _ _ _ _ (p6 .hex .ensures) (puts-one _ _ _ (c .before .before .put3 .ensures)))))))
+    puts-then _ _ _ _ (p22 .number .ensures) (puts-then _ _ _ _ (puts-one _ _ _ (p18 .put .ensures)) (puts-then _ _ _ _ (p14 .number2 .ensures) (puts-then _ _ _ _ (puts-one _ _ _ (p10 .put2 .ensures)) (puts-then _ _ _ _ (p6 .hex .ensures) (puts-one _ _ _ (c .before .before .put3 .ensures))))))
 
 pub word-line-spec : {M : Type 1} → statement M
 word-line-spec =

@@ -1,6 +1,6 @@
 -- `program::list_bytes` meets its contract: an input that is too long is listed as its refusal, any other in fresh buffers of the stated lengths. Assumes nothing.
-use native.Mathlib.Omega.{arith}
 use Rattle.program.specs.Laws.{too-long, within, are-lent}
+use native.Mathlib.Omega.{arith}
 use borrow.Author.Needs.{needs}
 use Rattle.program.proofs.list_bytes.Statement.{statement}
 use Rattle.program.proofs.list_bytes.Tie as tie

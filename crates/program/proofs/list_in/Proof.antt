@@ -34,7 +34,7 @@ same-length-7 c = search needs
 returns : tie.Need-returns
 returns c =
     let p20 = c .before .before .before .before .before .before .before .before .before .before .before .before .before .before .before .before .before .before .before .before in
-    listed-as _ ((p20 .lower .ensures) .0) (c .before .before .listing .ensures)
+    listed-as _ (p20 .lower .ensures .0) (c .before .before .listing .ensures)
 
 pub list-in-spec : {M : Type 1} → statement M
 list-in-spec =

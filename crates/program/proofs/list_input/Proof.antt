@@ -1,8 +1,8 @@
 -- `program::list_input` meets its contract, by those of `read_full` and `list_bytes`; what is written out is the list on the page. Assumes nothing.
 use mathlib.Core.Path.{sym}
-use native.Mathlib.Omega.{arith}
 use lib.Seq.{length-take-le}
 use Rattle.program.specs.Laws.{written-fits, listed-told}
+use native.Mathlib.Omega.{arith}
 use borrow.Author.Needs.{needs}
 use Rattle.program.proofs.list_input.Statement.{statement}
 use Rattle.program.proofs.list_input.Tie as tie
@@ -50,7 +50,7 @@ returns c =
     let p7 = p3 .before .before .before .before in
     let p10 = p7 .before .before .before in
     let p12 = p10 .before .before in
-    (listed-told (p7 .list-bytes .ensures) (p3 .listed .given .1), λ i. omega (arith, p10 .slice-known3 .given i), p12 .read-full .ensures .0)
+    (listed-told (p7 .list-bytes .ensures) (p3 .listed .given .1), λ i. omega (arith, (p10 .slice-known3 .given) i), (p12 .read-full .ensures .0))
 
 same-length-3 : tie.Need-same-length-3
 same-length-3 c = search needs
@@ -63,7 +63,7 @@ returns-2 c =
     let p4 = c .before .before .before .before in
     let p7 = p4 .before .before .before in
     let p9 = p7 .before .before in
-    (p4 .list-bytes .ensures, λ i. omega (arith, p7 .slice-known3 .given i), p9 .read-full .ensures .0)
+    ((p4 .list-bytes .ensures), λ i. omega (arith, (p7 .slice-known3 .given) i), (p9 .read-full .ensures .0))
 
 pub list-input-spec : {M : Type 1} → statement M
 list-input-spec =

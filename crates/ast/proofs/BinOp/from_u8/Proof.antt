@@ -68,7 +68,7 @@ returns-15 c = rw (c .match .keys15)
 
 returns-16 : tie.Need-returns-16
 unfolding binOpOf
-returns-16 c = List·getD-eq-default binOps Unknown {n = c .before .args .n} (passed 15 _ (c .match .rest))
+returns-16 c = List·getD-eq-default binOps Unknown {n = (c .before .args .n)} (passed 15 _ (c .match .rest))
 
 pub from-u8-spec : {M : Type 1} → statement M
 from-u8-spec =

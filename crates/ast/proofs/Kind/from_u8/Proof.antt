@@ -64,7 +64,7 @@ returns-14 c = rw (c .match .keys14)
 
 returns-15 : tie.Need-returns-15
 unfolding kindOf
-returns-15 c = List·getD-eq-default kinds Unknown {n = c .before .args .n} (passed 14 _ (c .match .rest))
+returns-15 c = List·getD-eq-default kinds Unknown {n = (c .before .args .n)} (passed 14 _ (c .match .rest))
 
 pub from-u8-spec : {M : Type 1} → statement M
 from-u8-spec =

@@ -20,7 +20,7 @@ returns-3 c = rw (c .match .keys3)
 
 returns-4 : tie.Need-returns-4
 unfolding unOpOf
-returns-4 c = List·getD-eq-default unOps Unknown {n = c .before .args .n} (passed 3 _ (c .match .rest))
+returns-4 c = List·getD-eq-default unOps Unknown {n = (c .before .args .n)} (passed 3 _ (c .match .rest))
 
 pub from-u8-spec : {M : Type 1} → statement M
 from-u8-spec = tie.close (tie.spec returns returns-2 returns-3 returns-4)

@@ -1,8 +1,8 @@
 -- Each way out is a law of `Forming`, at what the walk and the header gave.
 use Rattle.chunk.proofs.Forming.{as-many, form-long, form-header, form-cut, form-trailing, form-done}
 use mathlib.Core.Path.{_∙_}
-use native.Mathlib.Omega.{arith}
 use Rattle.chunk.proofs.Insides.{header-in}
+use native.Mathlib.Omega.{arith}
 use borrow.Author.Needs.{needs}
 use Rattle.chunk.proofs.form.check_form.Statement.{statement}
 use Rattle.chunk.proofs.form.check_form.Tie as tie

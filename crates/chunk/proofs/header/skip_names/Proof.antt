@@ -1,10 +1,10 @@
 -- The loop's invariant: the place behind all names is the place behind those that are left.
-use borrow.Author.Needs.{needs}
-use mathlib.Core.Path.{_≡_, refl, _∙_}
-use native.Mathlib.Omega.{arith}
+use mathlib.Core.Path.{_≡_, _∙_}
 use Rattle.cursor.specs.Inside.{text-inside}
 use Rattle.chunk.specs.Headers.{namesAt, skipped}
 use Rattle.chunk.specs.Skipping.{skip-more, skip-cut, skip-end}
+use native.Mathlib.Omega.{arith}
+use borrow.Author.Needs.{needs}
 use Rattle.chunk.proofs.header.skip_names.Statement.{statement}
 use Rattle.chunk.proofs.header.skip_names.Tie as tie
 
@@ -15,7 +15,7 @@ abbrev μ-loop : tie.MeasureT-loop
 μ-loop chunk count at left₀ next₀ left next = left
 
 loop-holds : tie.Need-loop-holds Inv-loop μ-loop
-loop-holds c = refl
+loop-holds c = search needs
 
 read-text-requires : tie.Need-read-text-requires Inv-loop μ-loop
 read-text-requires c κs = search needs
@@ -36,7 +36,7 @@ add-next : tie.Need-add-next Inv-loop μ-loop
 add-next c =
     let p4 = c .before .before .before .before in
     let p8 = p4 .before .before .before .before in
-    omega (arith, p8, text-inside _ _ _ (p4 .read-text .ensures ∙ c .before .before .t .given .1))
+    omega (arith, (p8), text-inside _ _ _ ((p4 .read-text .ensures) ∙ (c .before .before .t .given .1)))
 
 sub-left : tie.Need-sub-left Inv-loop μ-loop
 sub-left c = search needs

@@ -1,8 +1,8 @@
 -- `instructions::Instruction::a_bx` meets its contract: its sum is the definition's, and fits since an opcode's number is below 64. Assumes nothing.
-use borrow.Author.Needs.{needs}
-use native.Mathlib.Omega.{arith}
 use Rattle.instructions.specs.Word.{aBxOf}
 use Rattle.opcodes.specs.Laws.{code-lt}
+use native.Mathlib.Omega.{arith}
+use borrow.Author.Needs.{needs}
 use Rattle.instructions.proofs.Instruction.a_bx.Statement.{statement}
 use Rattle.instructions.proofs.Instruction.a_bx.Tie as tie
 
@@ -26,5 +26,4 @@ unfolding aBxOf
 returns c = search needs
 
 pub a-bx-spec : {M : Type 1} → statement M
-a-bx-spec =
-    tie.close (tie.spec number-requires mul-t6 add-t7 mul-t9 add-t10 returns)
+a-bx-spec = tie.close (tie.spec number-requires mul-t6 add-t7 mul-t9 add-t10 returns)

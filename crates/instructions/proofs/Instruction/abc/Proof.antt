@@ -1,8 +1,8 @@
 -- `instructions::Instruction::abc` meets its contract: its sum is the definition's, and fits since an opcode's number is below 64. Assumes nothing.
-use borrow.Author.Needs.{needs}
-use native.Mathlib.Omega.{arith}
 use Rattle.instructions.specs.Word.{abcOf}
 use Rattle.opcodes.specs.Laws.{code-lt}
+use native.Mathlib.Omega.{arith}
+use borrow.Author.Needs.{needs}
 use Rattle.instructions.proofs.Instruction.abc.Statement.{statement}
 use Rattle.instructions.proofs.Instruction.abc.Tie as tie
 

@@ -1,19 +1,19 @@
 -- `instructions::Instruction::sbx` meets its contract: Bx is below 2 ^ 18, so Bx less 131,071 fits. Assumes nothing.
-use borrow.Author.Needs.{needs}
 use Prim.Native.Nat.{_<_}
-use native.Mathlib.Omega.{arith}
 use Rattle.instructions.specs.Limits.{bxPlace, bxSize}
 use Rattle.instructions.specs.Laws.{get-lt}
 use Rattle.instructions.specs.Word.{sbxOf}
 use Rattle.instructions.proofs.Signed.{less-fits, less-is}
+use native.Mathlib.Omega.{arith}
+use borrow.Author.Needs.{needs}
 use Rattle.instructions.proofs.Instruction.sbx.Statement.{statement}
 use Rattle.instructions.proofs.Instruction.sbx.Tie as tie
 
-bx-requires : tie.Need-bx-requires
-bx-requires c κs = search needs
-
 small : (c : tie.After-bx) → c .bx .result < bxSize
 small c = rw (← (c .bx .ensures)) (get-lt bxPlace bxSize _ (search needs))
+
+bx-requires : tie.Need-bx-requires
+bx-requires c κs = search needs
 
 cast-result : tie.Need-cast-result
 cast-result c = record { sfits = omega (arith, small c) }

@@ -1,9 +1,9 @@
 -- `instructions::Instruction::set_sbx` meets its contract, by those of `excess` and `with_field`. Assumes nothing.
-use borrow.Author.Needs.{needs}
 use mathlib.Core.Path.{sym, ap, _∙_}
 use mir.Syntax.{w32}
 use mir.ValLaws.{toZ-ofZ}
 use Rattle.instructions.specs.Word.{excess}
+use borrow.Author.Needs.{needs}
 use Rattle.instructions.proofs.Instruction.set_sbx.Statement.{statement}
 use Rattle.instructions.proofs.Instruction.set_sbx.Tie as tie
 
@@ -15,8 +15,8 @@ with-field-requires c κs = search needs
 
 returns : tie.Need-returns
 returns c =
-    let s = c .before .before in
-    rw (ap excess (sym (toZ-ofZ w32 _ (s .fits .sbx))) ∙ c .before .excess .ensures) (c .with-field .ensures)
+    let s = (c .before .before) in
+    rw (ap excess (sym (toZ-ofZ w32 _ (s .fits .sbx))) ∙ (c .before .excess .ensures)) (c .with-field .ensures)
 
 pub set-sbx-spec : {M : Type 1} → statement M
 set-sbx-spec = tie.close (tie.spec excess-requires with-field-requires returns)

@@ -101,35 +101,35 @@ unfolding fieldsAt
 returns-3 c = rw (c .before .enum-told3 .given .1) (c .leaf3 .ensures)
 
 returns-4 : tie.Need-returns-4
-returns-4 c = rw (c .before .enum-told4 .given .1) (c .read-number .ensures _)
+returns-4 c = rw (c .before .enum-told4 .given .1) ((c .read-number .ensures) _)
 
 returns-5 : tie.Need-returns-5
-returns-5 c = rw (c .before .enum-told5 .given .1) (c .read-str .ensures _)
+returns-5 c = rw (c .before .enum-told5 .given .1) ((c .read-str .ensures) _)
 
 returns-6 : tie.Need-returns-6
-returns-6 c = rw (c .before .enum-told6 .given .1) (c .read-vararg .ensures _)
+returns-6 c = rw (c .before .enum-told6 .given .1) ((c .read-vararg .ensures) _)
 
 returns-7 : tie.Need-returns-7
-returns-7 c = rw (c .before .enum-told7 .given .1) (c .read-name .ensures _)
+returns-7 c = rw (c .before .enum-told7 .given .1) ((c .read-name .ensures) _)
 
 returns-8 : tie.Need-returns-8
-returns-8 c = rw (c .before .enum-told8 .given .1) (c .read-binary .ensures _)
+returns-8 c = rw (c .before .enum-told8 .given .1) ((c .read-binary .ensures) _)
 
 returns-9 : tie.Need-returns-9
-returns-9 c = rw (c .before .enum-told9 .given .1) (c .read-unary .ensures _)
+returns-9 c = rw (c .before .enum-told9 .given .1) ((c .read-unary .ensures) _)
 
 returns-10 : tie.Need-returns-10
 unfolding fieldsAt
 returns-10 c = rw (c .before .enum-told10 .given .1) (c .two .ensures)
 
 returns-11 : tie.Need-returns-11
-returns-11 c = rw (c .before .enum-told11 .given .1) (c .read-field .ensures _)
+returns-11 c = rw (c .before .enum-told11 .given .1) ((c .read-field .ensures) _)
 
 returns-12 : tie.Need-returns-12
-returns-12 c = rw (c .before .enum-told12 .given .1) (c .read-method-call .ensures _)
+returns-12 c = rw (c .before .enum-told12 .given .1) ((c .read-method-call .ensures) _)
 
 returns-13 : tie.Need-returns-13
-returns-13 c = rw (c .before .enum-told13 .given .1) (c .read-call .ensures _)
+returns-13 c = rw (c .before .enum-told13 .given .1) ((c .read-call .ensures) _)
 
 returns-14 : tie.Need-returns-14
 unfolding fieldsAt

@@ -1,8 +1,8 @@
 -- The text and the count of `fieldsAt` or the refusal on their way; they lie in the chunk, so the places behind them fit.
 use mathlib.Core.Path.{_∙_}
-use native.Mathlib.Omega.{arith}
 use Rattle.cursor.specs.Inside.{byte-inside, text-inside}
 use Rattle.nodes.specs.Nodes.{fieldsAt}
+use native.Mathlib.Omega.{arith}
 use borrow.Author.Needs.{needs}
 use Rattle.nodes.proofs.node.read_method_call.Statement.{statement}
 use Rattle.nodes.proofs.node.read_method_call.Tie as tie
@@ -18,13 +18,13 @@ enum-told c = search needs
 
 returns : tie.Need-returns
 unfolding fieldsAt
-returns c _ = rw (c .before .before .read-text .ensures, c .enum-told .given .1)
+returns c _ = rw ((c .before .before .read-text .ensures), (c .enum-told .given .1))
 
 add-end : tie.Need-add-end
 add-end c =
     let p4 = c .before .before .before .before in
     let p6 = p4 .before .before in
-    omega (arith, p6, text-inside _ _ _ (p4 .read-text .ensures ∙ c .before .before .t .given .1))
+    omega (arith, (p6), text-inside _ _ _ ((p4 .read-text .ensures) ∙ (c .before .before .t .given .1)))
 
 read-byte-requires : tie.Need-read-byte-requires
 read-byte-requires c κs = search needs
@@ -40,13 +40,13 @@ unfolding fieldsAt
 returns-2 c _ =
     let p5 = c .before .before .before .before .before in
     let p7 = p5 .before .before in
-    rw (p7 .read-text .ensures, p5 .t .given .1, c .before .before .read-byte .ensures, c .enum-told2 .given .1)
+    rw ((p7 .read-text .ensures), (p5 .t .given .1), (c .before .before .read-byte .ensures), (c .enum-told2 .given .1))
 
 add-many : tie.Need-add-many
 add-many c =
     let p3 = c .before .before .before in
     let p10 = p3 .before .before .before .before .before .before .before in
-    omega (arith, p10, byte-inside _ _ _ (p3 .read-byte .ensures ∙ c .before .n .given .1))
+    omega (arith, (p10), byte-inside _ _ _ ((p3 .read-byte .ensures) ∙ (c .before .n .given .1)))
 
 many-requires : tie.Need-many-requires
 many-requires c κs = search needs
@@ -57,7 +57,7 @@ returns-3 c _ =
     let p4 = c .before .before .before .before in
     let p7 = p4 .before .before .before in
     let p9 = p7 .before .before in
-    rw (p9 .read-text .ensures, p7 .t .given .1, p4 .read-byte .ensures, c .before .before .n .given .1, c .many .ensures)
+    rw ((p9 .read-text .ensures), (p7 .t .given .1), (p4 .read-byte .ensures), (c .before .before .n .given .1), (c .many .ensures))
 
 pub read-method-call-spec : {M : Type 1} → statement M
 read-method-call-spec =

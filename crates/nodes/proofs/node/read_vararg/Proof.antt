@@ -9,7 +9,7 @@ leaf-requires c κs = search needs
 
 returns : tie.Need-returns
 unfolding fieldsAt
-returns c _ = rw (c .before .if1 .taken, c .leaf .ensures)
+returns c _ = rw ((c .before .if1 .taken), (c .leaf .ensures))
 
 returns-2 : tie.Need-returns-2
 unfolding fieldsAt

@@ -103,26 +103,26 @@ unfolding fieldsAt
 returns-3 c = rw (c .before .enum-told3 .given .1) (c .ends3 .ensures)
 
 returns-4 : tie.Need-returns-4
-returns-4 c = rw (c .before .enum-told4 .given .1) (c .skip-number .ensures _)
+returns-4 c = rw (c .before .enum-told4 .given .1) ((c .skip-number .ensures) _)
 
 returns-5 : tie.Need-returns-5
 unfolding fieldsAt
-returns-5 c = rw (c .before .enum-told5 .given .1) (c .skip-text .ensures _ (λ _. refl))
+returns-5 c = rw (c .before .enum-told5 .given .1) ((c .skip-text .ensures) _ (λ _. refl))
 
 returns-6 : tie.Need-returns-6
-returns-6 c = rw (c .before .enum-told6 .given .1) (c .skip-vararg .ensures _)
+returns-6 c = rw (c .before .enum-told6 .given .1) ((c .skip-vararg .ensures) _)
 
 returns-7 : tie.Need-returns-7
 unfolding fieldsAt
-returns-7 c = rw (c .before .enum-told7 .given .1) (c .skip-text2 .ensures _ (λ _. refl))
+returns-7 c = rw (c .before .enum-told7 .given .1) ((c .skip-text2 .ensures) _ (λ _. refl))
 
 returns-8 : tie.Need-returns-8
 unfolding fieldsAt
-returns-8 c = rw (c .before .enum-told8 .given .1) (c .skip-operator .ensures _ (binary-known _ _) (binary-unknown _ _))
+returns-8 c = rw (c .before .enum-told8 .given .1) ((c .skip-operator .ensures) _ (binary-known _ _) (binary-unknown _ _))
 
 returns-9 : tie.Need-returns-9
 unfolding fieldsAt
-returns-9 c = rw (c .before .enum-told9 .given .1) (c .skip-operator2 .ensures _ (unary-known _ _) (unary-unknown _ _))
+returns-9 c = rw (c .before .enum-told9 .given .1) ((c .skip-operator2 .ensures) _ (unary-known _ _) (unary-unknown _ _))
 
 returns-10 : tie.Need-returns-10
 unfolding fieldsAt
@@ -130,14 +130,14 @@ returns-10 c = rw (c .before .enum-told10 .given .1) (c .ends4 .ensures)
 
 returns-11 : tie.Need-returns-11
 unfolding fieldsAt
-returns-11 c = rw (c .before .enum-told11 .given .1) (c .skip-text3 .ensures _ (λ _. refl))
+returns-11 c = rw (c .before .enum-told11 .given .1) ((c .skip-text3 .ensures) _ (λ _. refl))
 
 returns-12 : tie.Need-returns-12
-returns-12 c = rw (c .before .enum-told12 .given .1) (c .skip-method-call .ensures _)
+returns-12 c = rw (c .before .enum-told12 .given .1) ((c .skip-method-call .ensures) _)
 
 returns-13 : tie.Need-returns-13
 unfolding fieldsAt
-returns-13 c = rw (c .before .enum-told13 .given .1) (c .skip-call .ensures _)
+returns-13 c = rw (c .before .enum-told13 .given .1) ((c .skip-call .ensures) _)
 
 returns-14 : tie.Need-returns-14
 unfolding fieldsAt

@@ -1,8 +1,8 @@
 -- The text of `fieldsAt` or none, and behind it the count of a call; the text lies in the chunk, so the place behind it fits.
 use mathlib.Core.Path.{_∙_}
-use native.Mathlib.Omega.{arith}
 use Rattle.cursor.specs.Inside.{text-inside}
 use Rattle.nodes.specs.Nodes.{fieldsAt}
+use native.Mathlib.Omega.{arith}
 use borrow.Author.Needs.{needs}
 use Rattle.nodes.proofs.skip.skip_method_call.Statement.{statement}
 use Rattle.nodes.proofs.skip.skip_method_call.Tie as tie
@@ -18,13 +18,13 @@ enum-told c = search needs
 
 returns : tie.Need-returns
 unfolding fieldsAt
-returns c _ = rw (c .before .before .read-text .ensures, c .enum-told .given .1)
+returns c _ = rw ((c .before .before .read-text .ensures), (c .enum-told .given .1))
 
 add-skip-call : tie.Need-add-skip-call
 add-skip-call c =
     let p4 = c .before .before .before .before in
     let p6 = p4 .before .before in
-    omega (arith, p6, text-inside _ _ _ (p4 .read-text .ensures ∙ c .before .before .t .given .1))
+    omega (arith, (p6), text-inside _ _ _ ((p4 .read-text .ensures) ∙ (c .before .before .t .given .1)))
 
 skip-call-requires : tie.Need-skip-call-requires
 skip-call-requires c κs = search needs
@@ -34,7 +34,7 @@ unfolding fieldsAt
 returns-2 c _ =
     let p3 = c .before .before .before in
     let p5 = p3 .before .before in
-    rw (p5 .read-text .ensures, p3 .t .given .1) (c .skip-call .ensures _)
+    rw ((p5 .read-text .ensures), (p3 .t .given .1)) ((c .skip-call .ensures) _)
 
 pub skip-method-call-spec : {M : Type 1} → statement M
 skip-method-call-spec =

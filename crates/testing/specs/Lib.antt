@@ -1,2 +1,0 @@
-pub mod Zeros
-pub mod Putting
