@@ -1,5 +1,4 @@
 -- `operators::code_and` meets its contract, by those of `discharge_vars` and `concat_jumps`. Assumes nothing.
-use native.Mathlib.Omega.{arith}
 use Rattle.discharge.specs.Laws.{described-told}
 use Rattle.conditions.specs.Laws.{concat-is}
 use Rattle.operators.specs.Laws.{and-done, and-refused}
@@ -23,16 +22,10 @@ enum-known-answer-2 : tie.Need-enum-known-answer-2
 enum-known-answer-2 c = search needs
 
 same-length : tie.Need-same-length
-same-length c =
-    let p3 = c .before .before .before in
-    let p12 = p3 .before .before .before .before .before .before .before .before .before in
-    omega (arith, (p3 .concat-jumps .kept), (p12 .discharge-vars .kept))
+same-length c = search needs
 
 same-length-2 : tie.Need-same-length-2
-same-length-2 c =
-    let p3 = c .before .before .before in
-    let p12 = p3 .before .before .before .before .before .before .before .before .before in
-    omega (arith, (p3 .concat-jumps .kept), (p12 .discharge-vars .kept))
+same-length-2 c = search needs
 
 returns : tie.Need-returns
 returns c =
@@ -42,14 +35,10 @@ returns c =
     λ ks vs p. and-done _ _ _ _ (described-told (p12 .discharge-vars .result) _ ((p12 .discharge-vars .ensures) ks vs p) (p6 .answer .given .1)) (concat-is _ _ _ _ _ _ _ _ (p3 .concat-jumps .ensures .0) (p3 .concat-jumps .ensures .1)) (c .with-jumps .ensures)
 
 same-length-3 : tie.Need-same-length-3
-same-length-3 c =
-    let p7 = c .before .before .before .before .before .before .before in
-    omega (arith, (p7 .discharge-vars .kept))
+same-length-3 c = search needs
 
 same-length-4 : tie.Need-same-length-4
-same-length-4 c =
-    let p7 = c .before .before .before .before .before .before .before in
-    omega (arith, (p7 .discharge-vars .kept))
+same-length-4 c = search needs
 
 returns-2 : tie.Need-returns-2
 returns-2 c =

@@ -49,10 +49,7 @@ same-length-4 c =
     omega (arith, (p4 .emit-comp .kept), (p22 .exp2rk .kept))
 
 same-length-5 : tie.Need-same-length-5
-same-length-5 c =
-    let p4 = c .before .before .before .before in
-    let p22 = p4 .before .before .before .before .before .before .before .before .before .before .before .before .before .before .before .before .before .before in
-    omega (arith, (p4 .emit-comp .kept), (p22 .exp2rk .kept))
+same-length-5 c = search needs
 
 returns : tie.Need-returns
 returns c =
@@ -65,29 +62,19 @@ returns c =
     second-done (p33 .args .op) (p33 .args .cond) (p33 .args .swapped) (p33 .args .far) (p33 .args .x) (p33 .args .second) _ _ (described-told (p22 .exp2rk .result) _ (p22 .exp2rk .ensures) (p10 .answer .given .1)) (p6 .choose .ensures) (p5 .choose2 .ensures) ((p4 .emit-comp .ensures) _ _ _)
 
 same-length-6 : tie.Need-same-length-6
-same-length-6 c =
-    let p13 = c .before .before .before .before .before .before .before .before .before .before .before .before .before in
-    omega (arith, (p13 .exp2rk .kept))
+same-length-6 c = search needs
 
 same-length-7 : tie.Need-same-length-7
-same-length-7 c =
-    let p13 = c .before .before .before .before .before .before .before .before .before .before .before .before .before in
-    omega (arith, (p13 .exp2rk .kept))
+same-length-7 c = search needs
 
 same-length-8 : tie.Need-same-length-8
-same-length-8 c =
-    let p13 = c .before .before .before .before .before .before .before .before .before .before .before .before .before in
-    omega (arith, (p13 .exp2rk .kept))
+same-length-8 c = search needs
 
 same-length-9 : tie.Need-same-length-9
-same-length-9 c =
-    let p13 = c .before .before .before .before .before .before .before .before .before .before .before .before .before in
-    omega (arith, (p13 .exp2rk .kept))
+same-length-9 c = search needs
 
 same-length-10 : tie.Need-same-length-10
-same-length-10 c =
-    let p13 = c .before .before .before .before .before .before .before .before .before .before .before .before .before in
-    omega (arith, (p13 .exp2rk .kept))
+same-length-10 c = search needs
 
 returns-2 : tie.Need-returns-2
 returns-2 c =

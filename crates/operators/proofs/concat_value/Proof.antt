@@ -24,9 +24,7 @@ with-kind-requires : tie.Need-with-kind-requires
 with-kind-requires c κs = search needs
 
 same-length : tie.Need-same-length
-same-length c =
-    let p4 = c .before .before .before .before in
-    omega (arith, (p4 .set-b-at .kept))
+same-length c = search needs
 
 returns : tie.Need-returns
 returns c =
@@ -55,28 +53,16 @@ same-length-2 c =
     omega (arith, (p10 .code-concat .kept), (p29 .exp2nextreg .kept))
 
 same-length-3 : tie.Need-same-length-3
-same-length-3 c =
-    let p10 = c .before .before .before .before .before .before .before .before .before .before in
-    let p29 = p10 .before .before .before .before .before .before .before .before .before .before .before .before .before .before .before .before .before .before .before in
-    omega (arith, (p10 .code-concat .kept), (p29 .exp2nextreg .kept))
+same-length-3 c = search needs
 
 same-length-4 : tie.Need-same-length-4
-same-length-4 c =
-    let p10 = c .before .before .before .before .before .before .before .before .before .before in
-    let p29 = p10 .before .before .before .before .before .before .before .before .before .before .before .before .before .before .before .before .before .before .before in
-    omega (arith, (p10 .code-concat .kept), (p29 .exp2nextreg .kept))
+same-length-4 c = search needs
 
 same-length-5 : tie.Need-same-length-5
-same-length-5 c =
-    let p10 = c .before .before .before .before .before .before .before .before .before .before in
-    let p29 = p10 .before .before .before .before .before .before .before .before .before .before .before .before .before .before .before .before .before .before .before in
-    omega (arith, (p10 .code-concat .kept), (p29 .exp2nextreg .kept))
+same-length-5 c = search needs
 
 same-length-6 : tie.Need-same-length-6
-same-length-6 c =
-    let p10 = c .before .before .before .before .before .before .before .before .before .before in
-    let p29 = p10 .before .before .before .before .before .before .before .before .before .before .before .before .before .before .before .before .before .before .before in
-    omega (arith, (p10 .code-concat .kept), (p29 .exp2nextreg .kept))
+same-length-6 c = search needs
 
 returns-2 : tie.Need-returns-2
 returns-2 c =
@@ -89,29 +75,19 @@ returns-2 c =
     joined-next (p43 .args .e1) (p43 .args .e2) _ _ _ _ _ _ ((p36 .is-relocable .ensures) ∙ (p35 .if1 .left)) (described-told (p29 .exp2nextreg .result) _ (p29 .exp2nextreg .ensures) (p17 .answer .given .1)) ∙ (p10 .code-concat .ensures)
 
 same-length-7 : tie.Need-same-length-7
-same-length-7 c =
-    let p13 = c .before .before .before .before .before .before .before .before .before .before .before .before .before in
-    omega (arith, (p13 .exp2nextreg .kept))
+same-length-7 c = search needs
 
 same-length-8 : tie.Need-same-length-8
-same-length-8 c =
-    let p13 = c .before .before .before .before .before .before .before .before .before .before .before .before .before in
-    omega (arith, (p13 .exp2nextreg .kept))
+same-length-8 c = search needs
 
 same-length-9 : tie.Need-same-length-9
-same-length-9 c =
-    let p13 = c .before .before .before .before .before .before .before .before .before .before .before .before .before in
-    omega (arith, (p13 .exp2nextreg .kept))
+same-length-9 c = search needs
 
 same-length-10 : tie.Need-same-length-10
-same-length-10 c =
-    let p13 = c .before .before .before .before .before .before .before .before .before .before .before .before .before in
-    omega (arith, (p13 .exp2nextreg .kept))
+same-length-10 c = search needs
 
 same-length-11 : tie.Need-same-length-11
-same-length-11 c =
-    let p13 = c .before .before .before .before .before .before .before .before .before .before .before .before .before in
-    omega (arith, (p13 .exp2nextreg .kept))
+same-length-11 c = search needs
 
 returns-3 : tie.Need-returns-3
 returns-3 c =

@@ -1,5 +1,4 @@
 -- `operators::emit_comp` meets its contract, by those of `free_both`, `emit_test` and `compared` (specs/Laws.antt). Assumes nothing.
-use native.Mathlib.Omega.{arith}
 use Rattle.operators.specs.Laws.{comp-is}
 use borrow.Author.Needs.{needs}
 use Rattle.operators.proofs.emit_comp.Statement.{statement}
@@ -30,14 +29,10 @@ compared-requires : tie.Need-compared-requires
 compared-requires c κs = search needs
 
 same-length : tie.Need-same-length
-same-length c =
-    let p5 = c .before .before .before .before .before in
-    omega (arith, (p5 .emit-test .kept))
+same-length c = search needs
 
 same-length-2 : tie.Need-same-length-2
-same-length-2 c =
-    let p5 = c .before .before .before .before .before in
-    omega (arith, (p5 .emit-test .kept))
+same-length-2 c = search needs
 
 returns : tie.Need-returns
 returns c =

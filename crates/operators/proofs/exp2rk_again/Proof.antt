@@ -1,5 +1,4 @@
 -- `operators::exp2rk_again` meets its contract, by whether it is in a register without jumps. Assumes nothing.
-use native.Mathlib.Omega.{arith}
 use mathlib.Core.Path.{_∙_}
 use Rattle.operators.specs.Laws.{still-operand}
 use borrow.Author.Needs.{needs}
@@ -16,29 +15,19 @@ exp2rk-requires : tie.Need-exp2rk-requires
 exp2rk-requires c κs = search needs
 
 same-length : tie.Need-same-length
-same-length c =
-    let p10 = c .before .before .before .before .before .before .before .before .before .before in
-    omega (arith, (p10 .exp2rk .kept))
+same-length c = search needs
 
 same-length-2 : tie.Need-same-length-2
-same-length-2 c =
-    let p10 = c .before .before .before .before .before .before .before .before .before .before in
-    omega (arith, (p10 .exp2rk .kept))
+same-length-2 c = search needs
 
 same-length-3 : tie.Need-same-length-3
-same-length-3 c =
-    let p10 = c .before .before .before .before .before .before .before .before .before .before in
-    omega (arith, (p10 .exp2rk .kept))
+same-length-3 c = search needs
 
 same-length-4 : tie.Need-same-length-4
-same-length-4 c =
-    let p10 = c .before .before .before .before .before .before .before .before .before .before in
-    omega (arith, (p10 .exp2rk .kept))
+same-length-4 c = search needs
 
 same-length-5 : tie.Need-same-length-5
-same-length-5 c =
-    let p10 = c .before .before .before .before .before .before .before .before .before .before in
-    omega (arith, (p10 .exp2rk .kept))
+same-length-5 c = search needs
 
 returns-2 : tie.Need-returns-2
 returns-2 c =

@@ -32,4 +32,5 @@ returns-2 c =
 
 pub far-numeral-spec : {M : Type 1} → statement M
 far-numeral-spec =
-    tie.close (tie.spec is-numeral-requires find-numeral-requires is-far-requires returns returns-2)
+    tie.close
+    (tie.spec is-numeral-requires find-numeral-requires is-far-requires returns returns-2)

@@ -28,4 +28,14 @@ returns-3 : tie.Need-returns-3
 returns-3 c = search needs
 
 pub fold-unary-spec : {M : Type 1} → statement M
-fold-unary-spec = tie.close (tie.spec enum-told new-requires const-fold-requires enum-told-2 enum-told-3 returns returns-2 returns-3)
+fold-unary-spec =
+    tie.close
+    (tie.spec
+    enum-told
+    new-requires
+    const-fold-requires
+    enum-told-2
+    enum-told-3
+    returns
+    returns-2
+    returns-3)

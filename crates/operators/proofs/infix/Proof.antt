@@ -50,29 +50,19 @@ operand-requires : tie.Need-operand-requires
 operand-requires c κs = search needs
 
 same-length : tie.Need-same-length
-same-length c =
-    let p10 = c .before .before .before .before .before .before .before .before .before .before in
-    omega (arith, (p10 .goiftrue .kept))
+same-length c = search needs
 
 same-length-2 : tie.Need-same-length-2
-same-length-2 c =
-    let p10 = c .before .before .before .before .before .before .before .before .before .before in
-    omega (arith, (p10 .goiftrue .kept))
+same-length-2 c = search needs
 
 same-length-3 : tie.Need-same-length-3
-same-length-3 c =
-    let p10 = c .before .before .before .before .before .before .before .before .before .before in
-    omega (arith, (p10 .goiftrue .kept))
+same-length-3 c = search needs
 
 same-length-4 : tie.Need-same-length-4
-same-length-4 c =
-    let p10 = c .before .before .before .before .before .before .before .before .before .before in
-    omega (arith, (p10 .goiftrue .kept))
+same-length-4 c = search needs
 
 same-length-5 : tie.Need-same-length-5
-same-length-5 c =
-    let p10 = c .before .before .before .before .before .before .before .before .before .before in
-    omega (arith, (p10 .goiftrue .kept))
+same-length-5 c = search needs
 
 returns : tie.Need-returns
 returns c =
@@ -82,29 +72,19 @@ returns c =
     before-is _ _ _ _ ((p18 .operation-of .ensures) ∙ (p16 .enum-told .given .1)) ∙ (p10 .goiftrue .ensures)
 
 same-length-6 : tie.Need-same-length-6
-same-length-6 c =
-    let p10 = c .before .before .before .before .before .before .before .before .before .before in
-    omega (arith, (p10 .goiffalse .kept))
+same-length-6 c = search needs
 
 same-length-7 : tie.Need-same-length-7
-same-length-7 c =
-    let p10 = c .before .before .before .before .before .before .before .before .before .before in
-    omega (arith, (p10 .goiffalse .kept))
+same-length-7 c = search needs
 
 same-length-8 : tie.Need-same-length-8
-same-length-8 c =
-    let p10 = c .before .before .before .before .before .before .before .before .before .before in
-    omega (arith, (p10 .goiffalse .kept))
+same-length-8 c = search needs
 
 same-length-9 : tie.Need-same-length-9
-same-length-9 c =
-    let p10 = c .before .before .before .before .before .before .before .before .before .before in
-    omega (arith, (p10 .goiffalse .kept))
+same-length-9 c = search needs
 
 same-length-10 : tie.Need-same-length-10
-same-length-10 c =
-    let p10 = c .before .before .before .before .before .before .before .before .before .before in
-    omega (arith, (p10 .goiffalse .kept))
+same-length-10 c = search needs
 
 returns-2 : tie.Need-returns-2
 returns-2 c =
@@ -114,29 +94,19 @@ returns-2 c =
     before-is _ _ _ _ ((p18 .operation-of .ensures) ∙ (p16 .enum-told2 .given .1)) ∙ (p10 .goiffalse .ensures)
 
 same-length-11 : tie.Need-same-length-11
-same-length-11 c =
-    let p10 = c .before .before .before .before .before .before .before .before .before .before in
-    omega (arith, (p10 .exp2nextreg .kept))
+same-length-11 c = search needs
 
 same-length-12 : tie.Need-same-length-12
-same-length-12 c =
-    let p10 = c .before .before .before .before .before .before .before .before .before .before in
-    omega (arith, (p10 .exp2nextreg .kept))
+same-length-12 c = search needs
 
 same-length-13 : tie.Need-same-length-13
-same-length-13 c =
-    let p10 = c .before .before .before .before .before .before .before .before .before .before in
-    omega (arith, (p10 .exp2nextreg .kept))
+same-length-13 c = search needs
 
 same-length-14 : tie.Need-same-length-14
-same-length-14 c =
-    let p10 = c .before .before .before .before .before .before .before .before .before .before in
-    omega (arith, (p10 .exp2nextreg .kept))
+same-length-14 c = search needs
 
 same-length-15 : tie.Need-same-length-15
-same-length-15 c =
-    let p10 = c .before .before .before .before .before .before .before .before .before .before in
-    omega (arith, (p10 .exp2nextreg .kept))
+same-length-15 c = search needs
 
 returns-3 : tie.Need-returns-3
 returns-3 c =
@@ -146,29 +116,19 @@ returns-3 c =
     before-is _ _ _ _ ((p18 .operation-of .ensures) ∙ (p16 .enum-told3 .given .1)) ∙ (p10 .exp2nextreg .ensures)
 
 same-length-16 : tie.Need-same-length-16
-same-length-16 c =
-    let p10 = c .before .before .before .before .before .before .before .before .before .before in
-    omega (arith, (p10 .operand .kept))
+same-length-16 c = search needs
 
 same-length-17 : tie.Need-same-length-17
-same-length-17 c =
-    let p10 = c .before .before .before .before .before .before .before .before .before .before in
-    omega (arith, (p10 .operand .kept))
+same-length-17 c = search needs
 
 same-length-18 : tie.Need-same-length-18
-same-length-18 c =
-    let p10 = c .before .before .before .before .before .before .before .before .before .before in
-    omega (arith, (p10 .operand .kept))
+same-length-18 c = search needs
 
 same-length-19 : tie.Need-same-length-19
-same-length-19 c =
-    let p10 = c .before .before .before .before .before .before .before .before .before .before in
-    omega (arith, (p10 .operand .kept))
+same-length-19 c = search needs
 
 same-length-20 : tie.Need-same-length-20
-same-length-20 c =
-    let p10 = c .before .before .before .before .before .before .before .before .before .before in
-    omega (arith, (p10 .operand .kept))
+same-length-20 c = search needs
 
 returns-4 : tie.Need-returns-4
 returns-4 c =

@@ -1,5 +1,4 @@
 -- `operators::postfix` meets its contract, by what the operator is to its operands (specs/Laws.antt). Assumes nothing.
-use native.Mathlib.Omega.{arith}
 use mathlib.Core.Path.{_∙_}
 use Rattle.operators.specs.Laws.{after-is}
 use borrow.Author.Needs.{needs}
@@ -40,14 +39,10 @@ code-comp-requires : tie.Need-code-comp-requires
 code-comp-requires c κs = search needs
 
 same-length : tie.Need-same-length
-same-length c =
-    let p4 = c .before .before .before .before in
-    omega (arith, (p4 .code-and .kept))
+same-length c = search needs
 
 same-length-2 : tie.Need-same-length-2
-same-length-2 c =
-    let p4 = c .before .before .before .before in
-    omega (arith, (p4 .code-and .kept))
+same-length-2 c = search needs
 
 returns : tie.Need-returns
 returns c =
@@ -57,14 +52,10 @@ returns c =
     after-is _ _ _ _ _ ((p9 .operation-of .ensures) ∙ (p7 .enum-told .given .1)) ∙ (p4 .code-and .ensures) _ _ _
 
 same-length-3 : tie.Need-same-length-3
-same-length-3 c =
-    let p4 = c .before .before .before .before in
-    omega (arith, (p4 .code-or .kept))
+same-length-3 c = search needs
 
 same-length-4 : tie.Need-same-length-4
-same-length-4 c =
-    let p4 = c .before .before .before .before in
-    omega (arith, (p4 .code-or .kept))
+same-length-4 c = search needs
 
 returns-2 : tie.Need-returns-2
 returns-2 c =
@@ -74,29 +65,19 @@ returns-2 c =
     after-is _ _ _ _ _ ((p9 .operation-of .ensures) ∙ (p7 .enum-told2 .given .1)) ∙ (p4 .code-or .ensures) _ _ _
 
 same-length-5 : tie.Need-same-length-5
-same-length-5 c =
-    let p10 = c .before .before .before .before .before .before .before .before .before .before in
-    omega (arith, (p10 .join-concat .kept))
+same-length-5 c = search needs
 
 same-length-6 : tie.Need-same-length-6
-same-length-6 c =
-    let p10 = c .before .before .before .before .before .before .before .before .before .before in
-    omega (arith, (p10 .join-concat .kept))
+same-length-6 c = search needs
 
 same-length-7 : tie.Need-same-length-7
-same-length-7 c =
-    let p10 = c .before .before .before .before .before .before .before .before .before .before in
-    omega (arith, (p10 .join-concat .kept))
+same-length-7 c = search needs
 
 same-length-8 : tie.Need-same-length-8
-same-length-8 c =
-    let p10 = c .before .before .before .before .before .before .before .before .before .before in
-    omega (arith, (p10 .join-concat .kept))
+same-length-8 c = search needs
 
 same-length-9 : tie.Need-same-length-9
-same-length-9 c =
-    let p10 = c .before .before .before .before .before .before .before .before .before .before in
-    omega (arith, (p10 .join-concat .kept))
+same-length-9 c = search needs
 
 returns-3 : tie.Need-returns-3
 returns-3 c =
@@ -106,29 +87,19 @@ returns-3 c =
     after-is _ _ _ _ _ ((p18 .operation-of .ensures) ∙ (p16 .enum-told3 .given .1)) ∙ (p10 .join-concat .ensures)
 
 same-length-10 : tie.Need-same-length-10
-same-length-10 c =
-    let p10 = c .before .before .before .before .before .before .before .before .before .before in
-    omega (arith, (p10 .code-arith .kept))
+same-length-10 c = search needs
 
 same-length-11 : tie.Need-same-length-11
-same-length-11 c =
-    let p10 = c .before .before .before .before .before .before .before .before .before .before in
-    omega (arith, (p10 .code-arith .kept))
+same-length-11 c = search needs
 
 same-length-12 : tie.Need-same-length-12
-same-length-12 c =
-    let p10 = c .before .before .before .before .before .before .before .before .before .before in
-    omega (arith, (p10 .code-arith .kept))
+same-length-12 c = search needs
 
 same-length-13 : tie.Need-same-length-13
-same-length-13 c =
-    let p10 = c .before .before .before .before .before .before .before .before .before .before in
-    omega (arith, (p10 .code-arith .kept))
+same-length-13 c = search needs
 
 same-length-14 : tie.Need-same-length-14
-same-length-14 c =
-    let p10 = c .before .before .before .before .before .before .before .before .before .before in
-    omega (arith, (p10 .code-arith .kept))
+same-length-14 c = search needs
 
 returns-4 : tie.Need-returns-4
 returns-4 c =
@@ -138,29 +109,19 @@ returns-4 c =
     after-is _ _ _ _ _ ((p19 .operation-of .ensures) ∙ (p17 .f .given .1)) ∙ (p10 .code-arith .ensures)
 
 same-length-15 : tie.Need-same-length-15
-same-length-15 c =
-    let p10 = c .before .before .before .before .before .before .before .before .before .before in
-    omega (arith, (p10 .code-comp .kept))
+same-length-15 c = search needs
 
 same-length-16 : tie.Need-same-length-16
-same-length-16 c =
-    let p10 = c .before .before .before .before .before .before .before .before .before .before in
-    omega (arith, (p10 .code-comp .kept))
+same-length-16 c = search needs
 
 same-length-17 : tie.Need-same-length-17
-same-length-17 c =
-    let p10 = c .before .before .before .before .before .before .before .before .before .before in
-    omega (arith, (p10 .code-comp .kept))
+same-length-17 c = search needs
 
 same-length-18 : tie.Need-same-length-18
-same-length-18 c =
-    let p10 = c .before .before .before .before .before .before .before .before .before .before in
-    omega (arith, (p10 .code-comp .kept))
+same-length-18 c = search needs
 
 same-length-19 : tie.Need-same-length-19
-same-length-19 c =
-    let p10 = c .before .before .before .before .before .before .before .before .before .before in
-    omega (arith, (p10 .code-comp .kept))
+same-length-19 c = search needs
 
 returns-5 : tie.Need-returns-5
 returns-5 c =

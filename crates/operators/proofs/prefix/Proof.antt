@@ -1,5 +1,4 @@
 -- `operators::prefix` meets its contract: `not` by itself, the others by what they fold to (specs/Laws.antt). Assumes nothing.
-use native.Mathlib.Omega.{arith}
 use mathlib.Core.Path.{_∙_}
 use Rattle.operators.specs.Laws.{unop-not, unop-folded, unop-kept}
 use borrow.Author.Needs.{needs}
@@ -13,29 +12,19 @@ code-not-requires : tie.Need-code-not-requires
 code-not-requires c κs = search needs
 
 same-length : tie.Need-same-length
-same-length c =
-    let p10 = c .before .before .before .before .before .before .before .before .before .before in
-    omega (arith, (p10 .code-not .kept))
+same-length c = search needs
 
 same-length-2 : tie.Need-same-length-2
-same-length-2 c =
-    let p10 = c .before .before .before .before .before .before .before .before .before .before in
-    omega (arith, (p10 .code-not .kept))
+same-length-2 c = search needs
 
 same-length-3 : tie.Need-same-length-3
-same-length-3 c =
-    let p10 = c .before .before .before .before .before .before .before .before .before .before in
-    omega (arith, (p10 .code-not .kept))
+same-length-3 c = search needs
 
 same-length-4 : tie.Need-same-length-4
-same-length-4 c =
-    let p10 = c .before .before .before .before .before .before .before .before .before .before in
-    omega (arith, (p10 .code-not .kept))
+same-length-4 c = search needs
 
 same-length-5 : tie.Need-same-length-5
-same-length-5 c =
-    let p10 = c .before .before .before .before .before .before .before .before .before .before in
-    omega (arith, (p10 .code-not .kept))
+same-length-5 c = search needs
 
 returns : tie.Need-returns
 returns c =
@@ -70,29 +59,19 @@ returns-2 c =
     unop-folded _ _ _ _ ((p6 .is-not .ensures) ∙ (p5 .if1 .left)) ((p4 .fold-unary .ensures) ∙ (c .before .before .folded .given .1)) (c .with-number .ensures)
 
 same-length-6 : tie.Need-same-length-6
-same-length-6 c =
-    let p10 = c .before .before .before .before .before .before .before .before .before .before in
-    omega (arith, (p10 .code-unary .kept))
+same-length-6 c = search needs
 
 same-length-7 : tie.Need-same-length-7
-same-length-7 c =
-    let p10 = c .before .before .before .before .before .before .before .before .before .before in
-    omega (arith, (p10 .code-unary .kept))
+same-length-7 c = search needs
 
 same-length-8 : tie.Need-same-length-8
-same-length-8 c =
-    let p10 = c .before .before .before .before .before .before .before .before .before .before in
-    omega (arith, (p10 .code-unary .kept))
+same-length-8 c = search needs
 
 same-length-9 : tie.Need-same-length-9
-same-length-9 c =
-    let p10 = c .before .before .before .before .before .before .before .before .before .before in
-    omega (arith, (p10 .code-unary .kept))
+same-length-9 c = search needs
 
 same-length-10 : tie.Need-same-length-10
-same-length-10 c =
-    let p10 = c .before .before .before .before .before .before .before .before .before .before in
-    omega (arith, (p10 .code-unary .kept))
+same-length-10 c = search needs
 
 returns-3 : tie.Need-returns-3
 returns-3 c =
