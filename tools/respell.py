@@ -16,7 +16,7 @@ NAMED = {
     'closedCall': 'labelled_closed_call', 'codeNot': 'labelled_code_not', 'codeSelf': 'labelled_code_self', 'emitJump': 'labelled_emit_jump',
     'withFree': 'labelled_with_free', 'toHere': 'labelled_to_here',
     'cat-k': 'cat_k_lem', 'cat-x': 'cat_x_lem', 'expr-at': 'expr_at_lem', 'is-reg': 'is_reg_lem', 'left-first': 'left_first_lem', 'right-first': 'right_first_lem', 'step-at': 'step_at_lem',
-    'first_of': 'first_value', 'isOfKind': 'IsOfKind', 'bytes-tell': 'BytesTell', 'reader-tells': 'ReaderTells',
+    'setAOf': 'set_a_of', 'setBOf': 'set_b_of', 'setCOf': 'set_c_of', 'first_of': 'first_value', 'isOfKind': 'IsOfKind', 'bytes-tell': 'BytesTell', 'reader-tells': 'ReaderTells',
 }
 THERE = {('simulation', 'as-rk'): 'as_rk_lem'}
 # two files that would have the name of a module that the toolchain makes

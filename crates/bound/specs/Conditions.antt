@@ -3,7 +3,7 @@ use Rattle.std.specs.Prelude.{ℕ, ◌+◌, ◌-◌, ◌*◌, ◌≤◌, Bool, �
 use Rattle.std.proofs.Math.Bool.{true, false}
 use Rattle.std.proofs.Math.Path.{refl}
 use Rattle.std.proofs.Common.{arith, length-set}
-use Rattle.instructions.specs.Word.{a_of, set_aof}
+use Rattle.instructions.specs.Word.{a_of, set_a_of}
 use Rattle.model.specs.declared.ExprKind.{ExprKind}
 use Rattle.model.specs.declared.ExprKind.TheVariants.{Nil, True, False, K, KNum, Local, Global, Indexed, Jmp, Relocable, NonReloc, Call, VarArg}
 use Rattle.model.specs.declared.ExprContext.{ExprContext}
@@ -29,7 +29,7 @@ module _ {R : Resource} {cap : ℕ} where
 
   takes_invertjump : (e : ExprContext) → Takes R cap 0 (invertjump e)
   unfolding invertjump
-  takes_invertjump e = nothing_then takes_code_now (λ code. takes_change_word (get_jump_control code e.info) (λ w. set_aof w (bit (eqb (a_of w) 0))))
+  takes_invertjump e = nothing_then takes_code_now (λ code. takes_change_word (get_jump_control code e.info) (λ w. set_a_of w (bit (eqb (a_of w) 0))))
 
   takes_jumponcond : (e : ExprContext) (cond : Bool) → Takes R cap (value R e + 2 * per_word R) (jumponcond e cond)
   unfolding jumponcond

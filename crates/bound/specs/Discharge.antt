@@ -4,7 +4,7 @@ use Rattle.std.specs.Prelude.{ℕ, ◌+◌, ◌*◌, ◌≤◌, Bool, true, fals
 use Rattle.std.proofs.Math.Path.{refl, ap}
 use Rattle.std.proofs.Common.{sym, ◌∙◌}
 use native.Mathlib.Omega.{arith}
-use Rattle.instructions.specs.Word.{set_aof, set_bof, set_cof}
+use Rattle.instructions.specs.Word.{set_a_of, set_b_of, set_c_of}
 use Rattle.constants.specs.declared.Val.TheVariants as val
 use Rattle.model.specs.declared.ExprKind.{ExprKind}
 use Rattle.model.specs.declared.ExprKind.TheVariants.{Nil, True, False, K, KNum, Local, Global, Indexed, Jmp, Relocable, NonReloc, Call, VarArg}
@@ -177,8 +177,8 @@ module _ {R : Resource} {cap : ℕ} where
   spends_dv Jmp e p = spends_return e (same e)
   spends_dv Relocable e p = spends_return e (same e)
   spends_dv NonReloc e p = spends_return e (same e)
-  spends_dv Call e p = at_most (nothing_then (takes_change_word e.info (λ w. set_cof w 2)) (λ _. nothing_then takes_code_now (λ code. at_most {d = per_word R} (spends_return _ (same_kind NonReloc _ e refl (rw p refl))) (omega arith)))) (omega (arith, ap (load R) p))
-  spends_dv VarArg e p = at_most (nothing_then (takes_change_word e.info (λ w. set_bof w 2)) (λ _. at_most {d = 0} (spends_return _ (same_kind Relocable e.info e refl (rw p refl))) (omega arith))) (omega arith)
+  spends_dv Call e p = at_most (nothing_then (takes_change_word e.info (λ w. set_c_of w 2)) (λ _. nothing_then takes_code_now (λ code. at_most {d = per_word R} (spends_return _ (same_kind NonReloc _ e refl (rw p refl))) (omega arith)))) (omega (arith, ap (load R) p))
+  spends_dv VarArg e p = at_most (nothing_then (takes_change_word e.info (λ w. set_b_of w 2)) (λ _. at_most {d = 0} (spends_return _ (same_kind Relocable e.info e refl (rw p refl))) (omega arith))) (omega arith)
 
   -- what follows `discharge_vars` may take what its descriptor's value costs
   pub dv_then : (e : ExprContext) (d : ℕ) {B : Type 0} {f : ExprContext → Step B} {ψ : B → ℕ} {Q : B → Type 0} → ((e₁ : ExprContext) → Same e e₁ → Spends R cap (value R e₁ + d) (f e₁) ψ Q) → Spends R cap (value R e + d) (discharge_vars e >>= f) ψ Q
@@ -216,7 +216,7 @@ module _ {R : Resource} {cap : ℕ} where
   gives_load Global e reg p = gives_kept e
   gives_load Indexed e reg p = gives_kept e
   gives_load Jmp e reg p = gives_kept e
-  gives_load Relocable e reg p = at_most (nothing_then (takes_change_word e.info (λ w. set_aof w reg)) (λ _. gives_loaded reg e (rw p refl))) (omega arith)
+  gives_load Relocable e reg p = at_most (nothing_then (takes_change_word e.info (λ w. set_a_of w reg)) (λ _. gives_loaded reg e (rw p refl))) (omega arith)
   gives_load NonReloc e reg p = at_most (then_nothing (takes_when (not (eqb reg e.info)) (takes_move reg e.info)) (λ _. gives_loaded reg e (rw p refl))) (omega arith)
   gives_load Call e reg p = gives_kept e
   gives_load VarArg e reg p = gives_kept e

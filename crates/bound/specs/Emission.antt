@@ -8,7 +8,7 @@ use Rattle.std.proofs.Math.Dec.{eqb}
 use Rattle.std.proofs.lemmas.Bool.{lt-leb}
 use Rattle.refusals.specs.declared.Refusal.TheVariants.{Registers, Constants, Pool, Words}
 use Rattle.instructions.specs.Limits.{no_reg, max_words, max_stack, bit_rk, max_constants}
-use Rattle.instructions.specs.Word.{b_of, set_bof}
+use Rattle.instructions.specs.Word.{b_of, set_b_of}
 use Rattle.constants.specs.Entry.{part, holds}
 use Rattle.constants.specs.Table.{added as added_to, append, stored_text, out, find, full}
 use Rattle.constants.specs.Laws.{added_there, added_full, added_new}
@@ -186,7 +186,7 @@ module _ {R : Resource} {cap : ℕ} where
   unfolding emit_nil
   takes_emit_nil from = nothing_then takes_get (λ s. nothing_then takes_code_now (λ code.
       spends_if (leb s.label s.pc) (λ _. spends_if (eqb s.pc 0) (λ _. none_of takes_skip) (λ _.
-      spends_if (adjoins (word code (s.pc - 1)) from) (λ _. spends_if (ltb (b_of (word code (s.pc - 1))) from) (λ _. none_of (takes_change_word (s.pc - 1) (λ w. set_bof w from))) (λ _. none_of takes_skip)) (λ _. takes_load_nil from))) (λ _. takes_load_nil from)))
+      spends_if (adjoins (word code (s.pc - 1)) from) (λ _. spends_if (ltb (b_of (word code (s.pc - 1))) from) (λ _. none_of (takes_change_word (s.pc - 1) (λ w. set_b_of w from))) (λ _. none_of takes_skip)) (λ _. takes_load_nil from))) (λ _. takes_load_nil from)))
     where
       none_of : {x : Step (Unit {0})} → Takes R cap 0 x → Takes R cap (per_word R) x
       none_of g = at_most g (omega arith)

@@ -4,7 +4,7 @@ use Rattle.std.proofs.Math.Path.{◌≡◌, refl, ap}
 use Rattle.std.specs.Prelude.{List}
 use Rattle.std.proofs.Math.Option.{Option, some, none}
 use native.Mathlib.Omega.{arith}
-use Rattle.instructions.specs.Word.{set_aof, set_bof, set_cof}
+use Rattle.instructions.specs.Word.{set_a_of, set_b_of, set_c_of}
 use Rattle.constants.specs.declared.Val.TheVariants as val
 use Rattle.cursor.specs.Fields.{bytes_of}
 use Rattle.cursor.specs.declared.Text.{Text}
@@ -109,8 +109,8 @@ module _ {R : Resource} {cap : ℕ} where
 
   takes_set_multret : (e : ExprContext) → Takes R cap 0 (set_multret e)
   unfolding set_multret
-  takes_set_multret e = spends_if (is_kind Call e) (λ _. takes_change_word e.info (λ w. set_cof w 0))
-      (λ _. nothing_then takes_get (λ s. nothing_then (takes_change_word e.info (λ w. set_aof (set_bof w 0) s.free)) (λ _. takes_reserve_regs 1)))
+  takes_set_multret e = spends_if (is_kind Call e) (λ _. takes_change_word e.info (λ w. set_c_of w 0))
+      (λ _. nothing_then takes_get (λ s. nothing_then (takes_change_word e.info (λ w. set_a_of (set_b_of w 0) s.free)) (λ _. takes_reserve_regs 1)))
 
   spends_emit_call : (func : ExprContext) (b line : ℕ) → Spends R cap (per_word R) (emit_call func b line) (owes R) Any
   unfolding emit_call

@@ -4,7 +4,7 @@ use Rattle.std.proofs.Math.Bool.{true, false}
 use Rattle.std.proofs.Math.Path.{refl}
 use Rattle.std.proofs.Common.{arith, eqb-true}
 use Rattle.laws.specs.Truth.{and_true}
-use Rattle.instructions.specs.Word.{set_bof}
+use Rattle.instructions.specs.Word.{set_b_of}
 use Rattle.opcodes.specs.declared.OpCode.{OpCode}
 use Rattle.opcodes.specs.declared.OpCode.TheVariants as op
 use Rattle.folding.specs.declared.Fold.{Fold}
@@ -165,7 +165,7 @@ module _ {R : Resource} {cap : ℕ} where
   unfolding join_concat
   spends_join_concat e₁ e₂ l = at_most (val_then e₂ (3 * per_word R + owes R e₁) (λ e₃. nothing_then takes_code_now (λ code.
       spends_if {c = brings R e₃ + (3 * per_word R + owes R e₁)} (is_kind Relocable e₃ && is_op op.Concat (word code e₃.info))
-      (λ _. nothing_then (takes_free_expr e₁) (λ _. nothing_then (takes_change_word e₃.info (λ w. set_bof w e₁.info)) (λ _. spends_open e₁)))
+      (λ _. nothing_then (takes_free_expr e₁) (λ _. nothing_then (takes_change_word e₃.info (λ w. set_b_of w e₁.info)) (λ _. spends_open e₁)))
       (λ _. gives_then (gives_exp2nextreg e₃) (λ e₄ b. at_most {d = 3 * per_word R + owes R e₁} (spends_code_concat e₁ e₄) (omega (arith, (bare_light R e₄ b).0, (bare_light R e₄ b).1, l))))))) (omega (arith, brings_most R e₂))
 
   pub spends_after_right : (o : BinOp) (e₁ e₂ : ExprContext) → Ready R o e₁ → Spends R cap (left_owes R o e₁ + owes R e₂ + 8 * per_word R) (after_right o e₁ e₂) (owes R) Any

@@ -8,7 +8,7 @@ use Rattle.std.proofs.Common.{◌∙◌, lt-ltb, le-ltb}
 use native.Mathlib.Omega.{arith}
 use Rattle.refusals.specs.declared.Refusal.{Refusal}
 use Rattle.instructions.specs.Limits.{no_reg}
-use Rattle.instructions.specs.Word.{set_aof, set_bof, set_cof, abc_of}
+use Rattle.instructions.specs.Word.{set_a_of, set_b_of, set_c_of, abc_of}
 use Rattle.opcodes.specs.declared.OpCode.TheVariants as op
 use Rattle.cursor.specs.declared.Text.{Text}
 use Rattle.ast.specs.declared.Leaf.TheVariants as leaf
@@ -35,21 +35,21 @@ stepped_told g m q e = q ∙ ap (λ (o : Stepped). stepped_is o m) e
 
 module _ (e : ExprContext) (s : State) (code ls ks vs p : List ℕ) where
   abbrev closing : Step (Unit {0})
-  closing = change_word e.info (λ w. set_cof w 0)
+  closing = change_word e.info (λ w. set_c_of w 0)
 
   abbrev spreading : Step (Unit {0})
   spreading = do
     t ← get
-    change_word e.info (λ w. set_aof (set_bof w 0) t.free)
+    change_word e.info (λ w. set_a_of (set_b_of w 0) t.free)
     reserve_regs 1
 
-  pub multret_call : {after : List ℕ} → is_kind Call e ≡ true → set code e.info (set_cof (word code e.info) 0) ≡ after →
+  pub multret_call : {after : List ℕ} → is_kind Call e ≡ true → set code e.info (set_c_of (word code e.info) 0) ≡ after →
       set_multret e s (bufs code ls ks vs p) ≡ done tt s (bufs after ls ks vs p)
   unfolding set_multret
   multret_call h q =
       ap (λ (b : Bool). branch b closing spreading s (bufs code ls ks vs p)) h ∙ ap (λ (c : List ℕ). done tt s (bufs c ls ks vs p)) q
 
-  pub multret_vararg : {after : List ℕ} {x : Result (Unit {0})} → is_kind Call e ≡ false → set code e.info (set_aof (set_bof (word code e.info) 0) s.free) ≡ after →
+  pub multret_vararg : {after : List ℕ} {x : Result (Unit {0})} → is_kind Call e ≡ false → set code e.info (set_a_of (set_b_of (word code e.info) 0) s.free) ≡ after →
       reserve_regs 1 s (bufs after ls ks vs p) ≡ x → set_multret e s (bufs code ls ks vs p) ≡ x
   unfolding set_multret and_then
   multret_vararg h q z =

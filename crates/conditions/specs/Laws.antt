@@ -5,7 +5,7 @@ use Rattle.std.proofs.Common.{sym, ◌∙◌}
 use Rattle.refusals.specs.declared.Refusal.{Refusal}
 use Rattle.refusals.specs.declared.Refusal.TheVariants.{Words}
 use Rattle.instructions.specs.Limits.{no_reg}
-use Rattle.instructions.specs.Word.{a_of, b_of, set_aof, abc_of, a_sbx_of}
+use Rattle.instructions.specs.Word.{a_of, b_of, set_a_of, abc_of, a_sbx_of}
 use Rattle.opcodes.specs.declared.OpCode.{OpCode}
 use Rattle.opcodes.specs.declared.OpCode.TheVariants as op
 use Rattle.model.specs.declared.ExprKind.{ExprKind}
@@ -34,7 +34,7 @@ module _ (s : State) (code ls ks vs p : List ℕ) where
   unfolding pop
   pop_is h i j k = simp (pop, h, i, j, k)
 
-  pub invert_is : (e : ExprContext) {n w v : ℕ} {after : List ℕ} → get_jump_control code e.info ≡ n → word code n ≡ w → bit (eqb (a_of w) 0) ≡ v → set code n (set_aof (word code n) v) ≡ after →
+  pub invert_is : (e : ExprContext) {n w v : ℕ} {after : List ℕ} → get_jump_control code e.info ≡ n → word code n ≡ w → bit (eqb (a_of w) 0) ≡ v → set code n (set_a_of (word code n) v) ≡ after →
       invertjump e s (bufs code ls ks vs p) ≡ done tt s (bufs after ls ks vs p)
   unfolding invertjump and_then
   invert_is e h i j k = simp (invertjump, h, i, j, simp i at k)

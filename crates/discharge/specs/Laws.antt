@@ -7,7 +7,7 @@ use Rattle.std.proofs.Math.Path.{refl, ap}
 use Rattle.std.proofs.lemmas.Bool.{lt-leb}
 use Rattle.refusals.specs.declared.Refusal.{Refusal}
 use Rattle.instructions.specs.Limits.{max_index_rk}
-use Rattle.instructions.specs.Word.{a_of, set_aof, set_bof, set_cof}
+use Rattle.instructions.specs.Word.{a_of, set_a_of, set_b_of, set_c_of}
 use Rattle.opcodes.specs.declared.OpCode.TheVariants as op
 use Rattle.constants.specs.declared.Val.TheVariants as val
 use Rattle.model.specs.declared.ExprKind.{ExprKind}
@@ -53,12 +53,12 @@ module _ (e : ExprContext) (s : State) (m : Buffers) where
     indexed_refused h = simp (discharge_kind, ha, hb, h)
 
 module _ (e : ExprContext) (s : State) (code ls ks vs p : List ℕ) where
-  pub call_is : {after : List ℕ} → set code e.info (set_cof (word code e.info) 2) ≡ after →
+  pub call_is : {after : List ℕ} → set code e.info (set_c_of (word code e.info) 2) ≡ after →
       discharge_kind Call e s (bufs code ls ks vs p) ≡ done (with_kind NonReloc (a_of (word after e.info)) e) s (bufs after ls ks vs p)
   unfolding discharge_kind and_then
   call_is h = simp (discharge_kind, h)
 
-  pub vararg_is : {after : List ℕ} → set code e.info (set_bof (word code e.info) 2) ≡ after →
+  pub vararg_is : {after : List ℕ} → set code e.info (set_b_of (word code e.info) 2) ≡ after →
       discharge_kind VarArg e s (bufs code ls ks vs p) ≡ done (with_kind Relocable e.info e) s (bufs after ls ks vs p)
   unfolding discharge_kind and_then
   vararg_is h = simp (discharge_kind, h)
@@ -151,7 +151,7 @@ module _ (e : ExprContext) (reg : ℕ) (s : State) (m : Buffers) where
   unfolding discharge2reg and_then
   to_reg_refused h = simp (discharge2reg, h)
 
-pub relocated : (e : ExprContext) (reg : ℕ) (s : State) (code ls ks vs p : List ℕ) {after : List ℕ} → set code e.info (set_aof (word code e.info) reg) ≡ after →
+pub relocated : (e : ExprContext) (reg : ℕ) (s : State) (code ls ks vs p : List ℕ) {after : List ℕ} → set code e.info (set_a_of (word code e.info) reg) ≡ after →
     load_kind Relocable e reg s (bufs code ls ks vs p) ≡ done (with_kind NonReloc reg e) s (bufs after ls ks vs p)
 unfolding load_kind and_then
 relocated e reg s code ls ks vs p h = simp (load_kind, h)

@@ -5,7 +5,7 @@ use Rattle.std.proofs.Common.{ap, subst, ◌∙◌}
 use Rattle.std.proofs.Math.Dec.{eqb}
 use Rattle.refusals.specs.declared.Refusal.TheVariants.{Words, Registers}
 use Rattle.instructions.specs.Limits.{max_words, max_stack, max_index_rk, bit_rk}
-use Rattle.instructions.specs.Word.{b_of, set_bof, a_sbx_of}
+use Rattle.instructions.specs.Word.{b_of, set_b_of, a_sbx_of}
 use Rattle.opcodes.specs.declared.OpCode.TheVariants as op
 use Rattle.constants.specs.Table.{added, Out}
 use Rattle.constants.specs.declared.Val.{Val}
@@ -217,7 +217,7 @@ nils from s m =
     either_way Told (leb s.label s.pc) _ (load_nil from) s m
     (either_way Told (eqb s.pc 0) skip _ s m (nothing_moves s m)
     (either_way Told (adjoins (word m.code (s.pc - 1)) from) _ (load_nil from) s m
-    (either_way Told (ltb (b_of (word m.code (s.pc - 1))) from) (change_words (λ c. set c (s.pc - 1) (set_bof (word c (s.pc - 1)) from))) skip s m (words_change s m (λ c. set c (s.pc - 1) (set_bof (word c (s.pc - 1)) from))) (nothing_moves s m))
+    (either_way Told (ltb (b_of (word m.code (s.pc - 1))) from) (change_words (λ c. set c (s.pc - 1) (set_b_of (word c (s.pc - 1)) from))) skip s m (words_change s m (λ c. set c (s.pc - 1) (set_b_of (word c (s.pc - 1)) from))) (nothing_moves s m))
     (nil_loads from s m)))
     (nil_loads from s m)
 

@@ -2,7 +2,7 @@
 // A state and a descriptor go in by value and come back in the answer. Nothing is assumed of either.
 ghost use Rattle.std.specs.Prelude.{true, false, [], ◌≡◌, ℕ, set};
 ghost use Rattle.buffers.specs.Lent.{new, old};
-ghost use Rattle.instructions.specs.Word.{set_aof, set_bof, set_cof};
+ghost use Rattle.instructions.specs.Word.{set_a_of, set_b_of, set_c_of};
 ghost use Rattle.model.specs.declared.ExprKind.TheVariants.{Nil, KNum, Global, Indexed, NonReloc, Call, VarArg};
 ghost use Rattle.model.specs.declared.State.{State};
 ghost use Rattle.model.specs.declared.ExprContext.{ExprContext};
@@ -65,7 +65,7 @@ pub fn has_jumps(e: ExprContext) -> bool
 // ---- a word's field in place
 
 pub fn set_a_at(code: &mut [u32], pc: usize, a: usize)
-    ensures { set (old code) pc (set_aof (word (old code) pc) a) ≡ new code }
+    ensures { set (old code) pc (set_a_of (word (old code) pc) a) ≡ new code }
 {
     let i = Instruction {
         raw: word_at(code, pc),
@@ -75,7 +75,7 @@ pub fn set_a_at(code: &mut [u32], pc: usize, a: usize)
 }
 
 pub fn set_b_at(code: &mut [u32], pc: usize, b: u32)
-    ensures { set (old code) pc (set_bof (word (old code) pc) b) ≡ new code }
+    ensures { set (old code) pc (set_b_of (word (old code) pc) b) ≡ new code }
 {
     let i = Instruction {
         raw: word_at(code, pc),
@@ -85,7 +85,7 @@ pub fn set_b_at(code: &mut [u32], pc: usize, b: u32)
 }
 
 pub fn set_c_at(code: &mut [u32], pc: usize, c: u32)
-    ensures { set (old code) pc (set_cof (word (old code) pc) c) ≡ new code }
+    ensures { set (old code) pc (set_c_of (word (old code) pc) c) ≡ new code }
 {
     let i = Instruction {
         raw: word_at(code, pc),

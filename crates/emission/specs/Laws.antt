@@ -9,7 +9,7 @@ use borrow.Author.Tests.{lt-ltb, le-ltb, le-leb, lt-leb, eq-eqb, ne_eqb, leb-tru
 use Rattle.refusals.specs.declared.Refusal.{Refusal}
 use Rattle.refusals.specs.declared.Refusal.TheVariants.{Words, Registers}
 use Rattle.instructions.specs.Limits.{no_reg, bit_rk, max_words, max_stack}
-use Rattle.instructions.specs.Word.{b_of, a_sbx_of, set_bof}
+use Rattle.instructions.specs.Word.{b_of, a_sbx_of, set_b_of}
 use Rattle.opcodes.specs.declared.OpCode.TheVariants.{LoadBool, LoadNil, Jmp}
 use Rattle.constants.specs.Table.{added, out}
 use Rattle.constants.specs.declared.Val.{Val}
@@ -110,7 +110,7 @@ module _ (from : ℕ) (s : State) (m : Buffers) where
   before = word m.code (s.pc - 1)
 
   abbrev lengthened : Step (Unit {0})
-  lengthened = branch (ltb (b_of before) from) (change_words (λ c. set c (s.pc - 1) (set_bof (word c (s.pc - 1)) from))) skip
+  lengthened = branch (ltb (b_of before) from) (change_words (λ c. set c (s.pc - 1) (set_b_of (word c (s.pc - 1)) from))) skip
 
   abbrev unlabelled : Step (Unit {0})
   unlabelled = branch (eqb s.pc 0) skip (branch (adjoins before from) lengthened (load_nil from))
@@ -140,12 +140,12 @@ module _ (from : ℕ) (s : State) (m : Buffers) where
 
         pub nil_within : from ≤ b_of before → emit_nil from s m ≡ done tt s m
         nil_within h =
-            nil_near ∙ ap (λ (b : Bool). branch b (change_words (λ c. set c (s.pc - 1) (set_bof (word c (s.pc - 1)) from))) skip s m) (le-ltb (b_of before) from h)
+            nil_near ∙ ap (λ (b : Bool). branch b (change_words (λ c. set c (s.pc - 1) (set_b_of (word c (s.pc - 1)) from))) skip s m) (le-ltb (b_of before) from h)
 
         pub nil_longer : b_of before < from →
-            emit_nil from s m ≡ done tt s (bufs (set m.code (s.pc - 1) (set_bof before from)) m.lines m.kinds m.values m.pool)
+            emit_nil from s m ≡ done tt s (bufs (set m.code (s.pc - 1) (set_b_of before from)) m.lines m.kinds m.values m.pool)
         nil_longer h =
-            nil_near ∙ ap (λ (b : Bool). branch b (change_words (λ c. set c (s.pc - 1) (set_bof (word c (s.pc - 1)) from))) skip s m) (lt-ltb (b_of before) from h)
+            nil_near ∙ ap (λ (b : Bool). branch b (change_words (λ c. set c (s.pc - 1) (set_b_of (word c (s.pc - 1)) from))) skip s m) (lt-ltb (b_of before) from h)
 
 -- ---- registers
 

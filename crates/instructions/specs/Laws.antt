@@ -9,7 +9,7 @@ use Rattle.instructions.specs.Limits.{op_size, a_size, b_size, c_size, bx_size, 
 use Rattle.instructions.specs.Field.{get_at, set_at}
 use Rattle.opcodes.specs.OpCodes.{code_of, op_code_of}
 use Rattle.opcodes.specs.Laws.{opcode_code, code_lt}
-use Rattle.instructions.specs.Word.{op_of, opcode_of, a_of, b_of, c_of, bx_of, sbx_of, set_aof, set_bof, set_cof, set_bx_of, set_sbx_of, excess, abc_of, a_bx_of, a_sbx_of}
+use Rattle.instructions.specs.Word.{op_of, opcode_of, a_of, b_of, c_of, bx_of, sbx_of, set_a_of, set_b_of, set_c_of, set_bx_of, set_sbx_of, excess, abc_of, a_bx_of, a_sbx_of}
 use Rattle.opcodes.specs.declared.OpCode.{OpCode}
 
 -- ---- a field of a number, for any place and size
@@ -123,20 +123,20 @@ module _ (op : OpCode) where
 -- ---- a word that was built, and then a field of it set
 
 module _ (op : OpCode) (a b c v : ℕ) where
-  pub set_a_abc : set_aof (abc_of op a b c) v ≡ abc_of op v b c
+  pub set_a_abc : set_a_of (abc_of op a b c) v ≡ abc_of op v b c
   unfolding set_at abc_of
   set_a_abc = omega (arith, code_lt op)
 
-  pub set_b_abc : set_bof (abc_of op a b c) v ≡ abc_of op a v c
+  pub set_b_abc : set_b_of (abc_of op a b c) v ≡ abc_of op a v c
   unfolding set_at abc_of
   set_b_abc = omega (arith, code_lt op)
 
-  pub set_c_abc : set_cof (abc_of op a b c) v ≡ abc_of op a b v
+  pub set_c_abc : set_c_of (abc_of op a b c) v ≡ abc_of op a b v
   unfolding set_at abc_of
   set_c_abc = omega (arith, code_lt op)
 
 module _ (op : OpCode) (a bx v : ℕ) where
-  pub set_a_a_bx : set_aof (a_bx_of op a bx) v ≡ a_bx_of op v bx
+  pub set_a_a_bx : set_a_of (a_bx_of op a bx) v ≡ a_bx_of op v bx
   unfolding set_at a_bx_of
   set_a_a_bx = omega (arith, code_lt op)
 
@@ -147,67 +147,67 @@ module _ (op : OpCode) (a bx v : ℕ) where
 -- ---- a word in which a field was set
 
 module _ (w v : ℕ) where
-  pub set_a_mod : set_aof w (v % a_size) ≡ set_aof w v
+  pub set_a_mod : set_a_of w (v % a_size) ≡ set_a_of w v
   set_a_mod = set_mod a_place a_size w v
 
-  pub set_b_mod : set_bof w (v % b_size) ≡ set_bof w v
+  pub set_b_mod : set_b_of w (v % b_size) ≡ set_b_of w v
   set_b_mod = set_mod b_place b_size w v
 
-  pub op_set_a : op_of (set_aof w v) ≡ op_of w
+  pub op_set_a : op_of (set_a_of w v) ≡ op_of w
   op_set_a = get_set_lower op_place op_size a_place a_size w v (omega arith) refl
 
-  pub a_set_a : a_of (set_aof w v) ≡ v % a_size
+  pub a_set_a : a_of (set_a_of w v) ≡ v % a_size
   a_set_a = get_set_same a_place a_size w v (omega arith) (omega arith)
 
-  pub b_set_a : b_of (set_aof w v) ≡ b_of w
+  pub b_set_a : b_of (set_a_of w v) ≡ b_of w
   b_set_a = get_set_higher b_place b_size a_place a_size w v (omega arith) (omega arith) refl
 
-  pub c_set_a : c_of (set_aof w v) ≡ c_of w
+  pub c_set_a : c_of (set_a_of w v) ≡ c_of w
   c_set_a = get_set_higher c_place c_size a_place a_size w v (omega arith) (omega arith) refl
 
-  pub bx_set_a : bx_of (set_aof w v) ≡ bx_of w
+  pub bx_set_a : bx_of (set_a_of w v) ≡ bx_of w
   bx_set_a = get_set_higher bx_place bx_size a_place a_size w v (omega arith) (omega arith) refl
 
-  pub opcode_set_a : opcode_of (set_aof w v) ≡ opcode_of w
+  pub opcode_set_a : opcode_of (set_a_of w v) ≡ opcode_of w
   opcode_set_a = ap op_code_of op_set_a
 
-  pub set_a_lt : w < 2 ^ 32 → set_aof w v < 2 ^ 32
+  pub set_a_lt : w < 2 ^ 32 → set_a_of w v < 2 ^ 32
   set_a_lt = set_lt a_place a_size (2 ^ 32 / (a_place * a_size)) w v (omega arith) (omega arith)
 
-  pub op_set_b : op_of (set_bof w v) ≡ op_of w
+  pub op_set_b : op_of (set_b_of w v) ≡ op_of w
   op_set_b = get_set_lower op_place op_size b_place b_size w v (omega arith) refl
 
-  pub a_set_b : a_of (set_bof w v) ≡ a_of w
+  pub a_set_b : a_of (set_b_of w v) ≡ a_of w
   a_set_b = get_set_lower a_place a_size b_place b_size w v (omega arith) refl
 
-  pub b_set_b : b_of (set_bof w v) ≡ v % b_size
+  pub b_set_b : b_of (set_b_of w v) ≡ v % b_size
   b_set_b = get_set_same b_place b_size w v (omega arith) (omega arith)
 
-  pub c_set_b : c_of (set_bof w v) ≡ c_of w
+  pub c_set_b : c_of (set_b_of w v) ≡ c_of w
   c_set_b = get_set_lower c_place c_size b_place b_size w v (omega arith) refl
 
-  pub opcode_set_b : opcode_of (set_bof w v) ≡ opcode_of w
+  pub opcode_set_b : opcode_of (set_b_of w v) ≡ opcode_of w
   opcode_set_b = ap op_code_of op_set_b
 
-  pub set_b_lt : w < 2 ^ 32 → set_bof w v < 2 ^ 32
+  pub set_b_lt : w < 2 ^ 32 → set_b_of w v < 2 ^ 32
   set_b_lt = set_lt b_place b_size (2 ^ 32 / (b_place * b_size)) w v (omega arith) (omega arith)
 
-  pub op_set_c : op_of (set_cof w v) ≡ op_of w
+  pub op_set_c : op_of (set_c_of w v) ≡ op_of w
   op_set_c = get_set_lower op_place op_size c_place c_size w v (omega arith) refl
 
-  pub a_set_c : a_of (set_cof w v) ≡ a_of w
+  pub a_set_c : a_of (set_c_of w v) ≡ a_of w
   a_set_c = get_set_lower a_place a_size c_place c_size w v (omega arith) refl
 
-  pub b_set_c : b_of (set_cof w v) ≡ b_of w
+  pub b_set_c : b_of (set_c_of w v) ≡ b_of w
   b_set_c = get_set_higher b_place b_size c_place c_size w v (omega arith) (omega arith) refl
 
-  pub c_set_c : c_of (set_cof w v) ≡ v % c_size
+  pub c_set_c : c_of (set_c_of w v) ≡ v % c_size
   c_set_c = get_set_same c_place c_size w v (omega arith) (omega arith)
 
-  pub opcode_set_c : opcode_of (set_cof w v) ≡ opcode_of w
+  pub opcode_set_c : opcode_of (set_c_of w v) ≡ opcode_of w
   opcode_set_c = ap op_code_of op_set_c
 
-  pub set_c_lt : w < 2 ^ 32 → set_cof w v < 2 ^ 32
+  pub set_c_lt : w < 2 ^ 32 → set_c_of w v < 2 ^ 32
   set_c_lt = set_lt c_place c_size (2 ^ 32 / (c_place * c_size)) w v (omega arith) (omega arith)
 
   pub op_set_bx : op_of (set_bx_of w v) ≡ op_of w

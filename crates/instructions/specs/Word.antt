@@ -30,14 +30,14 @@ unfoldable pub sbx_of : ℕ → ℤ
 sbx_of w = pos (bx_of w) -ℤ pos max_arg_sbx
 
 -- `Instruction::set_a`, `set_b`, `set_c`
-abbrev pub set_aof : ℕ → ℕ → ℕ
-set_aof w v = set_at a_place a_size w v
+abbrev pub set_a_of : ℕ → ℕ → ℕ
+set_a_of w v = set_at a_place a_size w v
 
-abbrev pub set_bof : ℕ → ℕ → ℕ
-set_bof w v = set_at b_place b_size w v
+abbrev pub set_b_of : ℕ → ℕ → ℕ
+set_b_of w v = set_at b_place b_size w v
 
-abbrev pub set_cof : ℕ → ℕ → ℕ
-set_cof w v = set_at c_place c_size w v
+abbrev pub set_c_of : ℕ → ℕ → ℕ
+set_c_of w v = set_at c_place c_size w v
 
 abbrev pub set_bx_of : ℕ → ℕ → ℕ
 set_bx_of w v = set_at bx_place bx_size w v

@@ -1,7 +1,7 @@
 // Code words: opcode in bits 0-5, A in 6-13, C in 14-22, B in 23-31, Bx in 14-31; sBx is Bx less 131,071 (rilua's instructions.rs).
 ghost use Rattle.std.specs.Prelude.{◌≡◌, ◌*◌, ◌/◌, ◌^◌, ◌<◌};
 ghost use Rattle.instructions.specs.Field.{get_at, set_at};
-ghost use Rattle.instructions.specs.Word.{op_of, opcode_of, a_of, b_of, c_of, bx_of, sbx_of, set_aof, set_bof, set_cof, excess as excess_of, set_sbx_of, abc_of, a_bx_of, a_sbx_of};
+ghost use Rattle.instructions.specs.Word.{op_of, opcode_of, a_of, b_of, c_of, bx_of, sbx_of, set_a_of, set_b_of, set_c_of, excess as excess_of, set_sbx_of, abc_of, a_bx_of, a_sbx_of};
 
 use opcodes::OpCode;
 
@@ -137,7 +137,7 @@ impl Instruction {
     }
 
     pub fn set_a(self, a: u32) -> Self
-        ensures { set_aof self.raw a ≡ result.raw }
+        ensures { set_a_of self.raw a ≡ result.raw }
     {
         Self {
             raw: with_field(self.raw, 64, 256, a),
@@ -145,7 +145,7 @@ impl Instruction {
     }
 
     pub fn set_b(self, b: u32) -> Self
-        ensures { set_bof self.raw b ≡ result.raw }
+        ensures { set_b_of self.raw b ≡ result.raw }
     {
         Self {
             raw: with_field(self.raw, 8388608, 512, b),
@@ -153,7 +153,7 @@ impl Instruction {
     }
 
     pub fn set_c(self, c: u32) -> Self
-        ensures { set_cof self.raw c ≡ result.raw }
+        ensures { set_c_of self.raw c ≡ result.raw }
     {
         Self {
             raw: with_field(self.raw, 16384, 512, c),

@@ -5,7 +5,7 @@ use mathlib.Core.Path.{◌≡◌, sym}
 use lib.Dec.{eqb}
 use borrow.Author.Tests.{eq-eqb, ne_eqb}
 use Rattle.instructions.specs.Limits.{a_size, no_reg}
-use Rattle.instructions.specs.Word.{b_of, c_of, set_aof, abc_of}
+use Rattle.instructions.specs.Word.{b_of, c_of, set_a_of, abc_of}
 use Rattle.instructions.specs.Laws.{set_a_mod}
 use Rattle.opcodes.specs.declared.OpCode.TheVariants.{Test}
 use Rattle.model.specs.Jumps.{retest}
@@ -19,6 +19,6 @@ module _ (reg w : ℕ) where
   unfolding retest
   retest_none e = simp (retest, eq-eqb _ _ e)
 
-  pub retest_other : (reg ≡ b_of w → ⊥) → (reg ≡ no_reg → ⊥) → retest reg w ≡ set_aof w (reg % a_size)
+  pub retest_other : (reg ≡ b_of w → ⊥) → (reg ≡ no_reg → ⊥) → retest reg w ≡ set_a_of w (reg % a_size)
   unfolding retest
   retest_other e h = simp (retest, ne_eqb _ _ h, ne_eqb _ _ e) (sym (set_a_mod w reg))

@@ -1,7 +1,7 @@
 -- Conditional jumps, and `not`: goiftrue, goiffalse and what they call. Assumes nothing.
 use Rattle.std.specs.Prelude.{ℕ, ◌-◌, List, Bool, true, false, not, ◌&&◌, length, set, eqb}
 use Rattle.instructions.specs.Limits.{no_reg}
-use Rattle.instructions.specs.Word.{a_of, b_of, set_aof}
+use Rattle.instructions.specs.Word.{a_of, b_of, set_a_of}
 use Rattle.opcodes.specs.declared.OpCode.TheVariants as op
 use Rattle.model.specs.declared.ExprKind.{ExprKind}
 use Rattle.model.specs.declared.ExprKind.TheVariants.{Nil, True, False, K, KNum, Local, Global, Indexed, Jmp, Relocable, NonReloc, Call, VarArg}
@@ -25,7 +25,7 @@ pop s m = done tt (with_pc (s.pc - 1) s) (record { code = set m.code (s.pc - 1) 
 unfoldable pub invertjump : ExprContext → Step (Unit {0})
 invertjump e = do
   code ← code_now
-  change_word (get_jump_control code e.info) (λ w. set_aof w (bit (eqb (a_of w) 0)))
+  change_word (get_jump_control code e.info) (λ w. set_a_of w (bit (eqb (a_of w) 0)))
 
 -- a `Not` that is still to get its register, and so the last word
 abbrev pub is_not : List ℕ → ExprContext → Bool

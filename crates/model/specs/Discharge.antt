@@ -1,7 +1,7 @@
 -- Discharging: a descriptor becomes a value, a register or an RK operand. The middle part of codegen.rs. Assumes nothing.
 use Rattle.std.specs.Prelude.{ℕ, ◌+◌, ◌%◌, [], true, false, not, ◌||◌, length, set, eqb, leb}
 use Rattle.instructions.specs.Limits.{bit_rk, max_index_rk}
-use Rattle.instructions.specs.Word.{a_of, set_aof, set_bof, set_cof}
+use Rattle.instructions.specs.Word.{a_of, set_a_of, set_b_of, set_c_of}
 use Rattle.opcodes.specs.declared.OpCode.TheVariants as op
 use Rattle.constants.specs.declared.Val.TheVariants as val
 use Rattle.model.specs.declared.ExprKind.{ExprKind}
@@ -36,11 +36,11 @@ discharge_kind Jmp e = return e
 discharge_kind Relocable e = return e
 discharge_kind NonReloc e = return e
 discharge_kind Call e = do
-  change_word e.info (λ w. set_cof w 2)
+  change_word e.info (λ w. set_c_of w 2)
   code ← code_now
   return (with_kind NonReloc (a_of (word code e.info)) e)
 discharge_kind VarArg e = do
-  change_word e.info (λ w. set_bof w 2)
+  change_word e.info (λ w. set_b_of w 2)
   return (with_kind Relocable e.info e)
 
 -- `discharge_vars`
@@ -84,7 +84,7 @@ load_kind Global e reg = return e
 load_kind Indexed e reg = return e
 load_kind Jmp e reg = return e
 load_kind Relocable e reg = do
-  change_word e.info (λ w. set_aof w reg)
+  change_word e.info (λ w. set_a_of w reg)
   return (with_kind NonReloc reg e)
 load_kind NonReloc e reg = do
   when (not (eqb reg e.info)) (move reg e.info)

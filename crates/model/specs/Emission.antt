@@ -2,7 +2,7 @@
 use Rattle.std.specs.Prelude.{ℕ, ◌+◌, ◌-◌, max, List, Bool, true, false, ◌&&◌, ◌||◌, length, set, negsuc, eqb, leb, ltb}
 use Rattle.refusals.specs.declared.Refusal.TheVariants.{Registers, Words}
 use Rattle.instructions.specs.Limits.{no_reg, bit_rk, max_stack, max_words}
-use Rattle.instructions.specs.Word.{a_of, b_of, set_bof, abc_of, a_bx_of, a_sbx_of}
+use Rattle.instructions.specs.Word.{a_of, b_of, set_b_of, abc_of, a_bx_of, a_sbx_of}
 use Rattle.opcodes.specs.declared.OpCode.{OpCode}
 use Rattle.opcodes.specs.declared.OpCode.TheVariants.{LoadBool, LoadNil, Jmp}
 use Rattle.constants.specs.Table.{added as added_to, Out}
@@ -132,7 +132,7 @@ emit_nil from = do
       | true ↦ skip
       | false ↦ elim (adjoins (word code (s.pc - 1)) from) [
         | true ↦ elim (ltb (b_of (word code (s.pc - 1))) from) [
-          | true ↦ change_words (λ c. set c (s.pc - 1) (set_bof (word c (s.pc - 1)) from))
+          | true ↦ change_words (λ c. set c (s.pc - 1) (set_b_of (word c (s.pc - 1)) from))
           | false ↦ skip
         ]
         | false ↦ load_nil from

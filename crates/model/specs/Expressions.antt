@@ -3,7 +3,7 @@ use Rattle.std.specs.Prelude.{ℕ, zero, suc, ◌+◌, ◌-◌, List, [], ◌∷
 use Rattle.std.proofs.Math.Option.{Option, some, none}
 use Rattle.instructions.specs.Limits.{no_reg}
 use Rattle.refusals.specs.declared.Refusal.TheVariants as refusal
-use Rattle.instructions.specs.Word.{set_aof, set_bof, set_cof, abc_of}
+use Rattle.instructions.specs.Word.{set_a_of, set_b_of, set_c_of, abc_of}
 use Rattle.opcodes.specs.declared.OpCode.TheVariants as op
 use Rattle.folding.specs.Numeral.{numeral_of}
 use Rattle.constants.specs.declared.Val.TheVariants as val
@@ -48,10 +48,10 @@ search_local chunk name (t ∷ ts) r = last_wins (search_local chunk name ts (su
 unfoldable pub set_multret : ExprContext → Step (Unit {0})
 set_multret e =
     elim (is_kind Call e) [
-      | true ↦ change_word e.info (λ w. set_cof w 0)
+      | true ↦ change_word e.info (λ w. set_c_of w 0)
       | false ↦ do
         s ← get
-        change_word e.info (λ w. set_aof (set_bof w 0) s.free)
+        change_word e.info (λ w. set_a_of (set_b_of w 0) s.free)
         reserve_regs 1
     ]
 

@@ -3,7 +3,7 @@
 use Rattle.std.specs.Prelude.{ℕ, zero, suc, ◌+◌, ◌-◌, List, Bool, true, false, ◌||◌, length, get_or, set, ℤ, pos, negsuc, ◌-ℤ◌, eqb, ltb}
 use Rattle.instructions.specs.Limits.{no_reg, max_words}
 use Rattle.opcodes.specs.OpCodes.{code_of, test_mode}
-use Rattle.instructions.specs.Word.{op_of, opcode_of, b_of, c_of, sbx_of, set_aof, set_sbx_of, abc_of}
+use Rattle.instructions.specs.Word.{op_of, opcode_of, b_of, c_of, sbx_of, set_a_of, set_sbx_of, abc_of}
 use Rattle.opcodes.specs.declared.OpCode.{OpCode}
 use Rattle.opcodes.specs.declared.OpCode.TheVariants.{Test, TestSet}
 
@@ -75,7 +75,7 @@ need_value (suc fuel) code (suc pc) =
 
 -- a `TestSet` with the register for its value, or a `Test` where there is none or it is the tested one
 unfoldable pub retest : ℕ → ℕ → ℕ
-retest reg w = elim (eqb reg no_reg || eqb reg (b_of w)) [ true ↦ abc_of Test (b_of w) 0 (c_of w) | false ↦ set_aof w reg ]
+retest reg w = elim (eqb reg no_reg || eqb reg (b_of w)) [ true ↦ abc_of Test (b_of w) 0 (c_of w) | false ↦ set_a_of w reg ]
 
 -- `patch_test_reg`
 unfoldable pub patch_test_reg : List ℕ → ℕ → ℕ → List ℕ

@@ -1,7 +1,7 @@
 -- Operators: infix, postfix and prefix, with folding, arithmetic, comparisons and concatenation. Assumes nothing.
 use Rattle.std.specs.Prelude.{ℕ, ◌-◌, [], Bool, true, false, ◌&&◌, ltb}
 use Rattle.instructions.specs.Limits.{max_index_rk}
-use Rattle.instructions.specs.Word.{set_bof}
+use Rattle.instructions.specs.Word.{set_b_of}
 use Rattle.opcodes.specs.declared.OpCode.{OpCode}
 use Rattle.opcodes.specs.declared.OpCode.TheVariants as op
 use Rattle.folding.specs.Folding.{fold_of}
@@ -178,7 +178,7 @@ join_concat e₁ e₂ = do
   elim (is_kind Relocable e₃ && is_op op.Concat (word code e₃.info)) [
     | true ↦ do
       free_expr e₁
-      change_word e₃.info (λ w. set_bof w e₁.info)
+      change_word e₃.info (λ w. set_b_of w e₁.info)
       return (with_kind Relocable e₃.info e₁)
     | false ↦ do
       e₄ ← exp2nextreg e₃

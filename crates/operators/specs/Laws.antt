@@ -5,7 +5,7 @@ use Rattle.std.proofs.lemmas.Bool.{false≢true}
 use Rattle.std.proofs.Common.{true≢false, ◌∙◌}
 use Rattle.std.proofs.Math.Path.{refl, ap}
 use Rattle.refusals.specs.declared.Refusal.{Refusal}
-use Rattle.instructions.specs.Word.{set_bof}
+use Rattle.instructions.specs.Word.{set_b_of}
 use Rattle.opcodes.specs.declared.OpCode.{OpCode}
 use Rattle.opcodes.specs.declared.OpCode.TheVariants as op
 use Rattle.folding.specs.Folding.{fold_of}
@@ -315,7 +315,7 @@ module _ (e₁ e₂ : ExprContext) (s : State) (code ls ks vs p : List ℕ) wher
   lengthened a k =
       and_then
       (free_expr e₁ a k)
-      (λ _ (b : State) (o : Buffers). done (with_kind Relocable e₂.info e₁) b (bufs (set o.code e₂.info (set_bof (word o.code e₂.info) e₁.info)) o.lines o.kinds o.values o.pool))
+      (λ _ (b : State) (o : Buffers). done (with_kind Relocable e₂.info e₁) b (bufs (set o.code e₂.info (set_b_of (word o.code e₂.info) e₁.info)) o.lines o.kinds o.values o.pool))
 
   abbrev next : Step ExprContext
   next a k = and_then (exp2nextreg e₂ a k) (λ (d : ExprContext). code_concat e₁ d)
@@ -324,7 +324,7 @@ module _ (e₁ e₂ : ExprContext) (s : State) (code ls ks vs p : List ℕ) wher
   mem = bufs code ls ks vs p
 
   pub joined_longer : {t : State} {d : ExprContext} {after : List ℕ} → is_concat ≡ true → free_expr e₁ s mem ≡ done tt t mem →
-      set code e₂.info (set_bof (word code e₂.info) e₁.info) ≡ after → with_kind Relocable e₂.info e₁ ≡ d → joined_to e₁ e₂ s mem ≡ done d t (bufs after ls ks vs p)
+      set code e₂.info (set_b_of (word code e₂.info) e₁.info) ≡ after → with_kind Relocable e₂.info e₁ ≡ d → joined_to e₁ e₂ s mem ≡ done d t (bufs after ls ks vs p)
   unfolding and_then
   joined_longer h i j q = ap (λ (b : Bool). branch b lengthened next s mem) h ∙ simp (i, j, q)
 

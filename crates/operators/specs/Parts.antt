@@ -1,6 +1,6 @@
 -- Parts of the definitions that the code has functions for: what follows the operands. Assumes nothing.
 use Rattle.std.specs.Prelude.{ℕ, ◌-◌, Bool, true, false, ◌&&◌}
-use Rattle.instructions.specs.Word.{set_bof}
+use Rattle.instructions.specs.Word.{set_b_of}
 use Rattle.opcodes.specs.declared.OpCode.{OpCode}
 use Rattle.opcodes.specs.declared.OpCode.TheVariants as op
 use Rattle.folding.specs.declared.Arith.{Arith}
@@ -63,7 +63,7 @@ joined_to e₁ e₂ = do
   elim (is_kind Relocable e₂ && is_op op.Concat (word code e₂.info)) [
     | true ↦ do
       free_expr e₁
-      change_word e₂.info (λ w. set_bof w e₁.info)
+      change_word e₂.info (λ w. set_b_of w e₁.info)
       return (with_kind Relocable e₂.info e₁)
     | false ↦ do
       e₄ ← exp2nextreg e₂

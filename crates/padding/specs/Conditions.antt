@@ -4,7 +4,7 @@ use Rattle.std.proofs.Math.Bool.{true, false}
 use Rattle.std.proofs.Common.{◌∙◌, arith, get_or-set_other, eqb-true}
 use Rattle.std.proofs.Math.ListN.{length-set}
 use Rattle.std.proofs.lemmas.Bool.{eqb-false}
-use Rattle.instructions.specs.Word.{a_of, set_aof}
+use Rattle.instructions.specs.Word.{a_of, set_a_of}
 use Rattle.model.specs.declared.ExprKind.{ExprKind}
 use Rattle.model.specs.declared.ExprKind.TheVariants.{Nil, True, False, K, KNum, Local, Global, Indexed, Jmp, Relocable, NonReloc, Call, VarArg}
 use Rattle.model.specs.declared.ExprContext.{ExprContext}
@@ -46,7 +46,7 @@ module _ {z : Sizes} where
 
   keeps_invertjump : (e : ExprContext) → Keeps z (invertjump e)
   unfolding invertjump
-  keeps_invertjump e = keeps_then keeps_words (λ code. keeps_change_word (get_jump_control code e.info) (λ w. set_aof w (bit (eqb (a_of w) 0))))
+  keeps_invertjump e = keeps_then keeps_words (λ code. keeps_change_word (get_jump_control code e.info) (λ w. set_a_of w (bit (eqb (a_of w) 0))))
 
   keeps_jumponcond : (e : ExprContext) (cond : Bool) → Keeps z (jumponcond e cond)
   unfolding jumponcond

@@ -2,7 +2,7 @@
 use Rattle.std.specs.Prelude.{ℕ, not, ◌||◌, length, eqb, leb}
 use mathlib.Core.List.{[]}
 use Rattle.instructions.specs.Limits.{max_index_rk}
-use Rattle.instructions.specs.Word.{set_aof, set_bof, set_cof}
+use Rattle.instructions.specs.Word.{set_a_of, set_b_of, set_c_of}
 use Rattle.constants.specs.declared.Val.TheVariants as val
 use Rattle.model.specs.declared.ExprKind.{ExprKind}
 use Rattle.model.specs.declared.ExprKind.TheVariants.{Nil, True, False, K, KNum, Local, Global, Indexed, Jmp, Relocable, NonReloc, Call, VarArg}
@@ -29,8 +29,8 @@ module _ {z : Sizes} where
   keeps_discharge_kind Jmp e = keeps_return _
   keeps_discharge_kind Relocable e = keeps_return _
   keeps_discharge_kind NonReloc e = keeps_return _
-  keeps_discharge_kind Call e = keeps_then (keeps_change_word e.info (λ w. set_cof w 2)) (λ _. keeps_then keeps_words (λ code. keeps_return _))
-  keeps_discharge_kind VarArg e = keeps_then (keeps_change_word e.info (λ w. set_bof w 2)) (λ _. keeps_return _)
+  keeps_discharge_kind Call e = keeps_then (keeps_change_word e.info (λ w. set_c_of w 2)) (λ _. keeps_then keeps_words (λ code. keeps_return _))
+  keeps_discharge_kind VarArg e = keeps_then (keeps_change_word e.info (λ w. set_b_of w 2)) (λ _. keeps_return _)
 
   pub keeps_discharge_vars : (e : ExprContext) → Keeps z (discharge_vars e)
   keeps_discharge_vars e = keeps_discharge_kind e.kind e
@@ -56,7 +56,7 @@ module _ {z : Sizes} where
   keeps_load_kind Global e reg = keeps_return _
   keeps_load_kind Indexed e reg = keeps_return _
   keeps_load_kind Jmp e reg = keeps_return _
-  keeps_load_kind Relocable e reg = keeps_then (keeps_change_word e.info (λ w. set_aof w reg)) (λ _. keeps_return _)
+  keeps_load_kind Relocable e reg = keeps_then (keeps_change_word e.info (λ w. set_a_of w reg)) (λ _. keeps_return _)
   keeps_load_kind NonReloc e reg = keeps_then (keeps_when (not (eqb reg e.info)) (keeps_move reg e.info)) (λ _. keeps_return _)
   keeps_load_kind Call e reg = keeps_return _
   keeps_load_kind VarArg e reg = keeps_return _

@@ -6,7 +6,7 @@ use Rattle.std.proofs.Common.{◌∙◌, arith, length-set, get_or-set_other}
 use Rattle.std.proofs.Math.Dec.{eqb}
 use Rattle.refusals.specs.declared.Refusal.TheVariants.{Registers, Words}
 use Rattle.instructions.specs.Limits.{no_reg, max_words, max_stack, bit_rk}
-use Rattle.instructions.specs.Word.{b_of, set_bof}
+use Rattle.instructions.specs.Word.{b_of, set_b_of}
 use Rattle.constants.specs.Entry.{part, holds}
 use Rattle.constants.specs.Table.{added as added_to, append, stored_text, out, find, full}
 use Rattle.constants.specs.Laws.{added_there, added_full, added_new}
@@ -176,7 +176,7 @@ module _ {z : Sizes} where
   unfolding emit_nil
   keeps_emit_nil from = keeps_then keeps_get (λ s. keeps_then keeps_words (λ code.
       keeps_if (leb s.label s.pc) (keeps_if (eqb s.pc 0) keeps_skip (
-      keeps_if (adjoins (word code (s.pc - 1)) from) (keeps_if (ltb (b_of (word code (s.pc - 1))) from) (keeps_change_word (s.pc - 1) (λ w. set_bof w from)) keeps_skip) (keeps_load_nil from))) (keeps_load_nil from)))
+      keeps_if (adjoins (word code (s.pc - 1)) from) (keeps_if (ltb (b_of (word code (s.pc - 1))) from) (keeps_change_word (s.pc - 1) (λ w. set_b_of w from)) keeps_skip) (keeps_load_nil from))) (keeps_load_nil from)))
 
   -- ---- registers
 

@@ -3,7 +3,7 @@ use Prim.Native.Nat.{ℕ, zero, suc, ◌+◌, ◌-◌}
 use Rattle.std.specs.Prelude.{refl, List}
 use Rattle.std.proofs.Math.Option.{Option, some, none}
 use Rattle.refusals.specs.declared.Refusal.TheVariants as refusal
-use Rattle.instructions.specs.Word.{set_aof, set_bof, set_cof}
+use Rattle.instructions.specs.Word.{set_a_of, set_b_of, set_c_of}
 use Rattle.constants.specs.declared.Val.TheVariants as val
 use Rattle.cursor.specs.declared.Text.{Text}
 use Rattle.cursor.specs.Fields.{bytes_of}
@@ -40,8 +40,8 @@ module _ {z : Sizes} where
 
   keeps_set_multret : (e : ExprContext) → Keeps z (set_multret e)
   unfolding set_multret
-  keeps_set_multret e = keeps_if (is_kind Call e) (keeps_change_word e.info (λ w. set_cof w 0))
-      (keeps_then keeps_get (λ s. keeps_then (keeps_change_word e.info (λ w. set_aof (set_bof w 0) s.free)) (λ _. keeps_reserve_regs 1)))
+  keeps_set_multret e = keeps_if (is_kind Call e) (keeps_change_word e.info (λ w. set_c_of w 0))
+      (keeps_then keeps_get (λ s. keeps_then (keeps_change_word e.info (λ w. set_a_of (set_b_of w 0) s.free)) (λ _. keeps_reserve_regs 1)))
 
   keeps_emit_call : (func : ExprContext) (b line : ℕ) → Keeps z (emit_call func b line)
   unfolding emit_call

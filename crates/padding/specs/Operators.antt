@@ -1,7 +1,7 @@
 -- Operators keep the tails clean, before and after their right operand: part by part.
 use Rattle.std.specs.Prelude.{Bool, ◌&&◌, ltb}
 use Rattle.std.proofs.Math.Bool.{true, false}
-use Rattle.instructions.specs.Word.{set_bof}
+use Rattle.instructions.specs.Word.{set_b_of}
 use Rattle.opcodes.specs.declared.OpCode.{OpCode}
 use Rattle.opcodes.specs.declared.OpCode.TheVariants as op
 use Rattle.folding.specs.declared.Fold.{Fold}
@@ -113,7 +113,7 @@ module _ {z : Sizes} where
   unfolding join_concat
   keeps_join_concat e₁ e₂ = keeps_then (keeps_exp2val e₂) (λ e₃. keeps_then keeps_words (λ code.
       keeps_if (is_kind Relocable e₃ && is_op op.Concat (word code e₃.info))
-      (keeps_then (keeps_free_expr e₁) (λ _. keeps_then (keeps_change_word e₃.info (λ w. set_bof w e₁.info)) (λ _. keeps_return _)))
+      (keeps_then (keeps_free_expr e₁) (λ _. keeps_then (keeps_change_word e₃.info (λ w. set_b_of w e₁.info)) (λ _. keeps_return _)))
       (keeps_then (keeps_exp2nextreg e₃) (λ e₄. keeps_code_concat e₁ e₄))))
 
   pub keeps_after_right : (o : BinOp) (e₁ e₂ : ExprContext) → Keeps z (after_right o e₁ e₂)

@@ -8,7 +8,7 @@ use mathlib.Core.List.{List, ◌∷◌}
 use Rattle.std.proofs.Math.ListN.{set}
 use Rattle.std.proofs.Math.Dec.{eqb}
 use Rattle.instructions.specs.Limits.{no_reg}
-use Rattle.instructions.specs.Word.{set_aof, set_bof, set_cof, abc_of}
+use Rattle.instructions.specs.Word.{set_a_of, set_b_of, set_c_of, abc_of}
 use Rattle.instructions.specs.Laws.{set_a_abc, set_b_abc, set_c_abc}
 use Rattle.opcodes.specs.declared.OpCode.TheVariants as op
 use Rattle.constants.specs.Entry.{Constant, nil, truth, number, text}
@@ -74,27 +74,27 @@ module _ {Γ : Env} (func : ExprContext) (b n line : ℕ) (i : InF func b) (σ :
 
 -- a call's last word with another C
 module _ (t : List Constant) (F : ℕ) where
-  all_values : (ws : List ℕ) (n c : ℕ) (u : CT) (q : ℕ) → suc q ≡ twidth u + n → q < length ws → CodesC t F ws n c u → (vs : List ℕ) → ((p : ℕ) → p < twidth u + n → word vs p ≡ word (set ws q (set_cof (word ws q) 0)) p) → CodesC t F vs n 0 u
+  all_values : (ws : List ℕ) (n c : ℕ) (u : CT) (q : ℕ) → suc q ≡ twidth u + n → q < length ws → CodesC t F ws n c u → (vs : List ℕ) → ((p : ℕ) → p < twidth u + n → word vs p ≡ word (set ws q (set_c_of (word ws q) 0)) p) → CodesC t F vs n 0 u
   all_values ws n c (cfix b k) q e l h vs g = let z : q ≡ n = omega arith in
       let w : word ws q ≡ abc_of op.Call b (suc k) c = rw z h.1 in
-      let v : word vs n ≡ abc_of op.Call b (suc k) 0 = g n (omega arith) ∙ subst (λ p. word (set ws q (set_cof (word ws q) 0)) p ≡ abc_of op.Call b (suc k) 0) z (word_same ws q _ l ∙ rw w (set_c_abc op.Call b (suc k) c 0)) in
+      let v : word vs n ≡ abc_of op.Call b (suc k) 0 = g n (omega arith) ∙ subst (λ p. word (set ws q (set_c_of (word ws q) 0)) p ≡ abc_of op.Call b (suc k) 0) z (word_same ws q _ l ∙ rw w (set_c_abc op.Call b (suc k) c 0)) in
       (h.0, v)
   all_values ws n c (cva b k) q e l h vs g = let z : q ≡ 1 + n = omega arith in
       let w : word ws q ≡ abc_of op.Call b 0 c = rw z h.1.1 in
-      let v : word vs (1 + n) ≡ abc_of op.Call b 0 0 = g (1 + n) (omega arith) ∙ subst (λ p. word (set ws q (set_cof (word ws q) 0)) p ≡ abc_of op.Call b 0 0) z (word_same ws q _ l ∙ rw w (set_c_abc op.Call b 0 c 0)) in
+      let v : word vs (1 + n) ≡ abc_of op.Call b 0 0 = g (1 + n) (omega arith) ∙ subst (λ p. word (set ws q (set_c_of (word ws q) 0)) p ≡ abc_of op.Call b 0 0) z (word_same ws q _ l ∙ rw w (set_c_abc op.Call b 0 c 0)) in
       (h.0, (g n (omega arith) ∙ word_other ws q n _ (λ y. omega arith) ∙ h.1.0, v))
   all_values ws n c (cct b k u) q e l h vs g = let z : q ≡ twidth u + n = omega arith in
       let w : word ws q ≡ abc_of op.Call b 0 c = rw z h.1.1.1 in
-      let v : word vs (twidth u + n) ≡ abc_of op.Call b 0 0 = g (twidth u + n) (omega arith) ∙ subst (λ p. word (set ws q (set_cof (word ws q) 0)) p ≡ abc_of op.Call b 0 0) z (word_same ws q _ l ∙ rw w (set_c_abc op.Call b 0 c 0)) in
+      let v : word vs (twidth u + n) ≡ abc_of op.Call b 0 0 = g (twidth u + n) (omega arith) ∙ subst (λ p. word (set ws q (set_c_of (word ws q) 0)) p ≡ abc_of op.Call b 0 0) z (word_same ws q _ l ∙ rw w (set_c_abc op.Call b 0 c 0)) in
       (h.0, (h.1.0, (agree_c t F ws vs n 0 u (λ p a y. g p (omega arith) ∙ word_other ws q p _ (λ x. omega arith)) h.1.1.0, v)))
 
-multret_call : (e : ExprContext) (s : State) (m : Buffers) → is_kind kind.Call e ≡ true → set_multret e s m ≡ done tt s (with_code (set m.code e.info (set_cof (word m.code e.info) 0)) m)
+multret_call : (e : ExprContext) (s : State) (m : Buffers) → is_kind kind.Call e ≡ true → set_multret e s m ≡ done tt s (with_code (set m.code e.info (set_c_of (word m.code e.info) 0)) m)
 unfolding set_multret
-multret_call e s m z = chosen (is_kind kind.Call e) (change_word e.info (λ w. set_cof w 0)) _ s m ∙ rw z refl
+multret_call e s m z = chosen (is_kind kind.Call e) (change_word e.info (λ w. set_c_of w 0)) _ s m ∙ rw z refl
 
-multret_vararg : (e : ExprContext) (s : State) (m : Buffers) → is_kind kind.Call e ≡ false → set_multret e s m ≡ reserve_regs 1 s (with_code (set m.code e.info (set_aof (set_bof (word m.code e.info) 0) s.free)) m)
+multret_vararg : (e : ExprContext) (s : State) (m : Buffers) → is_kind kind.Call e ≡ false → set_multret e s m ≡ reserve_regs 1 s (with_code (set m.code e.info (set_a_of (set_b_of (word m.code e.info) 0) s.free)) m)
 unfolding set_multret and_then
-multret_vararg e s m z = chosen (is_kind kind.Call e) (change_word e.info (λ w. set_cof w 0)) _ s m ∙ rw z refl
+multret_vararg e s m z = chosen (is_kind kind.Call e) (change_word e.info (λ w. set_c_of w 0)) _ s m ∙ rw z refl
 
 module _ {Γ : Env} (func : ExprContext) (b n line : ℕ) (i : InF func b) (σ : St) (one : 1 ≤ Γ.n) (on : On Γ.n σ) where
   -- the call that takes the list
@@ -114,7 +114,7 @@ module _ {Γ : Env} (func : ExprContext) (b n line : ℕ) (i : InF func b) (σ :
       (λ vs g y. (omega (arith, now.taken, taken), (z, (all_values σ.tab s.frame m.code (size σ.code) 2 u e.info h.1.0 inside now.holds.rep.enc.0 vs g, y)))))
     where
       us : List ℕ
-      us = set m.code e.info (set_cof (word m.code e.info) 0)
+      us = set m.code e.info (set_c_of (word m.code e.info) 0)
 
       now : Sim Γ s m H (pl (callw u) ∷ σ.code) σ.free σ.tab
       now = h.1.1.1
@@ -133,7 +133,7 @@ module _ {Γ : Env} (func : ExprContext) (b n line : ℕ) (i : InF func b) (σ :
       (λ vs g y. (omega (arith, (q.1.1 m₂ H (pl (setw 0 vfst) ∷ σ.code) σ.tab now).taken, taken), (g (size σ.code) (omega arith) ∙ listed, y))))))
     where
       us : List ℕ
-      us = set m.code (size σ.code) (set_aof (set_bof (word m.code (size σ.code)) 0) s.free)
+      us = set m.code (size σ.code) (set_a_of (set_b_of (word m.code (size σ.code)) 0) s.free)
 
       m₂ : Buffers
       m₂ = with_code (set m.code (size σ.code) (abc_of op.VarArg 0 2 0)) m
@@ -147,7 +147,7 @@ module _ {Γ : Env} (func : ExprContext) (b n line : ℕ) (i : InF func b) (σ :
       listed : word us (size σ.code) ≡ abc_of op.VarArg (suc (n + b)) 0 0
       listed = word_same m.code (size σ.code) _ inside ∙ all_of (word m.code (size σ.code)) h.1.1.1.0
         where
-          all_of : (w : ℕ) → w ≡ abc_of op.VarArg 0 1 0 → set_aof (set_bof w 0) s.free ≡ abc_of op.VarArg (suc (n + b)) 0 0
+          all_of : (w : ℕ) → w ≡ abc_of op.VarArg 0 1 0 → set_a_of (set_b_of w 0) s.free ≡ abc_of op.VarArg (suc (n + b)) 0 0
           all_of w y = rw (y, set_b_abc op.VarArg 0 1 0 0, now.free ∙ taken) (set_a_abc op.VarArg 0 0 0 (suc (n + b)))
 
 -- ---- `last_argument`

@@ -6,7 +6,7 @@ use Rattle.std.proofs.Math.Path.{refl, sym, ap}
 use Rattle.std.proofs.Common.{◌∙◌, subst}
 use native.Mathlib.Omega.{arith}
 use Rattle.opcodes.specs.OpCodes.{code_of}
-use Rattle.instructions.specs.Word.{set_bof, abc_of}
+use Rattle.instructions.specs.Word.{set_b_of, abc_of}
 use Rattle.instructions.specs.Laws.{set_b_abc}
 use Rattle.opcodes.specs.declared.OpCode.TheVariants as op
 use Rattle.folding.specs.declared.Arith.TheVariants as ar
@@ -132,7 +132,7 @@ con_kind (ktext x) = refl
 
 module _ (Γ : Env) (e₁ : ExprContext) (f : ℕ) (one : 1 ≤ Γ.n) (la : Γ.active ≤ f) (i : InF e₁ f) where
   abbrev lengthen : ExprContext → Step ExprContext
-  lengthen e₃ = free_expr e₁ >> (change_word e₃.info (λ w. set_bof w e₁.info) >> return (with_kind kind.Relocable e₃.info e₁))
+  lengthen e₃ = free_expr e₁ >> (change_word e₃.info (λ w. set_b_of w e₁.info) >> return (with_kind kind.Relocable e₃.info e₁))
 
   abbrev joins : ExprContext → Step ExprContext
   joins e₃ s m = pick (is_kind kind.Relocable e₃ && is_op op.Concat (word m.code e₃.info)) (lengthen e₃ s m) ((exp2nextreg e₃ >>= code_concat e₁) s m)
@@ -159,10 +159,10 @@ module _ (Γ : Env) (e₁ : ExprContext) (f : ℕ) (one : 1 ≤ Γ.n) (la : Γ.a
       w_is : word m.code (size σ.code) ≡ abc_of op.Concat 0 b (k + b)
       w_is = now.holds.rep.enc.0.1.1.1
 
-      longer_one : Sim Γ (with_free f s) (with_code (set m.code (size σ.code) (set_bof (word m.code (size σ.code)) f)) m) H (pl (setw 0 (cat f (suc k))) ∷ σ.code) f σ.tab
+      longer_one : Sim Γ (with_free f s) (with_code (set m.code (size σ.code) (set_b_of (word m.code (size σ.code)) f)) m) H (pl (setw 0 (cat f (suc k))) ∷ σ.code) f σ.tab
       longer_one = sim_replace refl (sim_fewer now f (omega (arith, taken))) (setw 0 (cat f (suc k))) _ refl tt (λ us z.
           let e : k + b ≡ suc k + f = omega (arith, bf) in
-          let v : set_bof (word m.code (size σ.code)) f ≡ abc_of op.Concat 0 f (k + b) = rw w_is (set_b_abc op.Concat 0 b (k + b) f) in
+          let v : set_b_of (word m.code (size σ.code)) f ≡ abc_of op.Concat 0 f (k + b) = rw w_is (set_b_abc op.Concat 0 b (k + b) f) in
           (omega (arith, now.two), (omega arith, (omega (arith, e, now.holds.rep.enc.0.1.1.0), z ∙ v ∙ ap (abc_of op.Concat 0 f) e))))
 
   module _ (s : State) (m : Buffers) (e₃ : ExprContext) (σ : St) (tl fl : ℕ) where

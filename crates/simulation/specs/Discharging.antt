@@ -3,7 +3,7 @@ use Rattle.std.specs.Prelude.{ℕ, suc, ◌+◌, ◌≤◌, ◌<◌, true, false
 use Rattle.std.proofs.Math.Path.{refl, sym, ap}
 use Rattle.std.proofs.Common.{◌∙◌, arith}
 use Rattle.std.proofs.lemmas.List.{set-get_or}
-use Rattle.instructions.specs.Word.{set_cof, abc_of, a_bx_of}
+use Rattle.instructions.specs.Word.{set_c_of, abc_of, a_bx_of}
 use Rattle.instructions.specs.Laws.{a_abc, set_b_abc, set_c_abc}
 use Rattle.opcodes.specs.declared.OpCode.TheVariants as op
 use Rattle.constants.specs.Entry.{Constant, nil, truth, number, text}
@@ -136,10 +136,10 @@ module _ (Γ : Env) (s : State) (m : Buffers) (e : ExprContext) (σ : St) (tl fl
       w : LastC σ.tab s.frame m.code (cbase u) 2 (word m.code e.info)
       w = last_call σ.tab s.frame m.code (size σ.code) 2 u e.info now.holds.rep.enc.0 d.is.1.0
 
-      word_same : set_cof (word m.code e.info) 2 ≡ word m.code e.info
+      word_same : set_c_of (word m.code e.info) 2 ≡ word m.code e.info
       word_same = rw w.is (set_c_abc op.Call (cbase u) w.count 2 2)
 
-      words_same : set m.code e.info (set_cof (word m.code e.info) 2) ≡ m.code
+      words_same : set m.code e.info (set_c_of (word m.code e.info) 2) ≡ m.code
       words_same = rw word_same (set-get_or m.code e.info 0)
 
   dv_vararg : SimD Γ s m e (P kva) → Goal kva

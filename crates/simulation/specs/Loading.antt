@@ -7,7 +7,7 @@ use Rattle.std.proofs.Common.{◌∙◌, subst, arith, lt-ltb}
 use mathlib.Core.List.{List, [], ◌∷◌}
 use Rattle.std.proofs.Math.Option.{none}
 use Rattle.instructions.specs.Limits.{max_words}
-use Rattle.instructions.specs.Word.{set_aof, abc_of, a_bx_of}
+use Rattle.instructions.specs.Word.{set_a_of, abc_of, a_bx_of}
 use Rattle.instructions.specs.Laws.{set_a_abc, set_a_a_bx}
 use Rattle.opcodes.specs.declared.OpCode.TheVariants as op
 use Rattle.constants.specs.Entry.{Constant, nil, truth, number, text}
@@ -141,14 +141,14 @@ module _ (Γ : Env) (s : State) (m : Buffers) (H : ℕ → ℕ) (e : ExprContext
 
 -- a word that gets its register
 module _ (t : List Constant) (F w r : ℕ) where
-  set_a_v : (v : Value) → CodesV t F w 0 v → CodesV t F (set_aof w r) r v
+  set_a_v : (v : Value) → CodesV t F w 0 v → CodesV t F (set_a_of w r) r v
   set_a_v vnil h = h
   set_a_v (vtruth b) h = rw h (set_a_abc op.LoadBool 0 (bit b) 0 r)
   set_a_v (vnumber n) h = (h.0, rw h.1 (set_a_a_bx op.LoadK 0 _ r))
   set_a_v (vtext x) h = (h.0, rw h.1 (set_a_a_bx op.LoadK 0 _ r))
   set_a_v (other i) h = h
 
-  pub set_a_x : (x : Ex) → CodesX t F w 0 x → CodesX t F (set_aof w r) r x
+  pub set_a_x : (x : Ex) → CodesX t F w 0 x → CodesX t F (set_a_of w r) r x
   set_a_x (val v) h = set_a_v v h
   set_a_x (cp a) h = (h.0, rw h.1 (set_a_abc op.Move 0 a 0 r))
   set_a_x (glob g) h = (h.0, rw h.1 (set_a_a_bx op.GetGlobal 0 _ r))

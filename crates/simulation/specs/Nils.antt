@@ -8,7 +8,7 @@ use mathlib.Core.List.{List, [], ◌∷◌}
 use native.Mathlib.Omega.{arith}
 use borrow.Author.Tests.{le-leb, lt-leb, eq-eqb, ne_eqb, leb-true, leb-false, ltb-true, ltb-false}
 use Rattle.opcodes.specs.OpCodes.{code_of}
-use Rattle.instructions.specs.Word.{a_of, b_of, set_bof, abc_of}
+use Rattle.instructions.specs.Word.{a_of, b_of, set_b_of, abc_of}
 use Rattle.instructions.specs.Laws.{op_abc, a_abc, b_abc, set_b_abc}
 use Rattle.opcodes.specs.declared.OpCode.{OpCode}
 use Rattle.opcodes.specs.declared.OpCode.TheVariants as op
@@ -116,10 +116,10 @@ module _ (t : List Constant) (F : ℕ) where
 -- ---- the step
 
 nil_is : (r : ℕ) (s : State) (m : Buffers) → emit_nil r s m ≡ pick (leb s.label s.pc) (pick (eqb s.pc 0) (done tt s m) (pick (adjoins (word m.code (s.pc - 1)) r)
-    (pick (ltb (b_of (word m.code (s.pc - 1))) r) (done tt s (with_code (set m.code (s.pc - 1) (set_bof (word m.code (s.pc - 1)) r)) m)) (done tt s m)) (load_nil r s m))) (load_nil r s m)
+    (pick (ltb (b_of (word m.code (s.pc - 1))) r) (done tt s (with_code (set m.code (s.pc - 1) (set_b_of (word m.code (s.pc - 1)) r)) m)) (done tt s m)) (load_nil r s m))) (load_nil r s m)
 unfolding emit_nil and_then
 nil_is r s m = chosen (leb s.label s.pc) _ (load_nil r) s m ∙ ap (λ z. pick (leb s.label s.pc) z (load_nil r s m)) (chosen (eqb s.pc 0) skip _ s m ∙ ap (λ z. pick (eqb s.pc 0) (done tt s m) z)
-    (chosen (adjoins (word m.code (s.pc - 1)) r) _ (load_nil r) s m ∙ ap (λ z. pick (adjoins (word m.code (s.pc - 1)) r) z (load_nil r s m)) (chosen (ltb (b_of (word m.code (s.pc - 1))) r) (change_words (λ c. set c (s.pc - 1) (set_bof (word c (s.pc - 1)) r))) skip s m)))
+    (chosen (adjoins (word m.code (s.pc - 1)) r) _ (load_nil r) s m ∙ ap (λ z. pick (adjoins (word m.code (s.pc - 1)) r) z (load_nil r s m)) (chosen (ltb (b_of (word m.code (s.pc - 1))) r) (change_words (λ c. set c (s.pc - 1) (set_b_of (word c (s.pc - 1)) r))) skip s m)))
 
 size_none : size [] ≡ 0
 unfolding size
@@ -179,7 +179,7 @@ module _ {Γ : Env} {s : State} {m : Buffers} {H : ℕ → ℕ} (σ : St) (h : S
       own = own_word
 
       go : (x y y' u v : Bool) → leb r (k + a + 1) ≡ y → leb r (suc (k + a)) ≡ y' → ltb (k + a) r ≡ u → leb r (k + a) ≡ v →
-          Ends (pick (x && y) (pick u (done (tt {0}) s (with_code (set m.code (size c) (set_bof (abc_of op.LoadNil a (k + a) 0) r)) m)) (done (tt {0}) s m)) (load_nil r s m)) (λ z s' m'. Niled s' m' (extend (x && y') v a k r c σ))
+          Ends (pick (x && y) (pick u (done (tt {0}) s (with_code (set m.code (size c) (set_b_of (abc_of op.LoadNil a (k + a) 0) r)) m)) (done (tt {0}) s m)) (load_nil r s m)) (λ z s' m'. Niled s' m' (extend (x && y') v a k r c σ))
       go false y y' u v e₁ e₂ e₃ e₄ = own
       go true false false u v e₁ e₂ e₃ e₄ = own
       go true false true u v e₁ e₂ e₃ e₄ = absurd (omega (arith, leb-false r (k + a + 1) e₁, leb-true r (suc (k + a)) e₂))

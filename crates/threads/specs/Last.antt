@@ -7,7 +7,7 @@ use Rattle.std.proofs.Common.{sym, ◌∙◌, arith}
 use mathlib.Core.List.{List, ◌∷◌}
 use Rattle.std.proofs.Math.ListN.{set, length-set}
 use Rattle.instructions.specs.Limits.{max_words, a_size}
-use Rattle.instructions.specs.Word.{a_of, set_aof, abc_of}
+use Rattle.instructions.specs.Word.{a_of, set_a_of, abc_of}
 use Rattle.instructions.specs.Laws.{a_abc, set_a_abc}
 use Rattle.model.specs.Values.{StepKind}
 use Rattle.model.specs.Jumps.{word, get_jump_control}
@@ -76,7 +76,7 @@ free_plain i c ℓ z = on_top (is_lab ℓ) i c (no_lab ℓ i z) (size c) ∙ loo
 
 -- `invertjump`, of the Jmp at p: A := (A == 0)
 abbrev pub inverted : List ℕ → ℕ → List ℕ
-inverted ws p = set ws (get_jump_control ws p) (set_aof (word ws (get_jump_control ws p)) (bit (eqb (a_of (word ws (get_jump_control ws p))) 0)))
+inverted ws p = set ws (get_jump_control ws p) (set_a_of (word ws (get_jump_control ws p)) (bit (eqb (a_of (word ws (get_jump_control ws p))) 0)))
 
 flip : (k : Bool) → bit (eqb (bit k % a_size) 0) ≡ bit (not k)
 flip true = refl
@@ -101,7 +101,7 @@ rep_invert {K = K} {ws = ws} {c = c} {o = o} {k = k} {x = x} {y = y} {ℓ = ℓ}
     at_c = ctl_pair ws (1 + size c) (size c) (omega arith) (tests (word ws (size c)) (comparison o) (bit k) u₀ v₀ h (comparison_tests o))
 
     v : ℕ
-    v = set_aof (word ws (size c)) (bit (eqb (a_of (word ws (size c))) 0))
+    v = set_a_of (word ws (size c)) (bit (eqb (a_of (word ws (size c))) 0))
 
     us : List ℕ
     us = set ws (size c) v

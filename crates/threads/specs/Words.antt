@@ -5,7 +5,7 @@ use Rattle.std.proofs.Common.{ap, ◌∙◌, arith, add-one, length-set, get_or-
 use Rattle.std.proofs.Math.IntN.{sub_ℕ}
 use Rattle.instructions.specs.Limits.{max_words, no_reg}
 use Rattle.opcodes.specs.OpCodes.{code_of}
-use Rattle.instructions.specs.Word.{op_of, b_of, c_of, sbx_of, set_aof, set_bx_of, excess, abc_of, a_bx_of, a_sbx_of}
+use Rattle.instructions.specs.Word.{op_of, b_of, c_of, sbx_of, set_a_of, set_bx_of, excess, abc_of, a_bx_of, a_sbx_of}
 use Rattle.instructions.specs.Laws.{op_a_bx, set_bx_a_bx, InSbx, sbx_a_sbx}
 use Rattle.opcodes.specs.declared.OpCode.TheVariants.{Jmp, Test}
 use Rattle.labelled.specs.Code.{same}
@@ -89,9 +89,9 @@ pub ret_is : (ws : List ℕ) (p reg : ℕ) → ret ws p reg ≡ pick (keeps_valu
 unfolding patch_test_reg
 ret_is ws p reg = pick_is (keeps_value ws (suc p)) (set ws (get_jump_control ws p) (retest reg (word ws (get_jump_control ws p)))) ws
 
-pub retest_is : (reg w : ℕ) → retest reg w ≡ pick (same reg no_reg || same reg (b_of w)) (abc_of Test (b_of w) 0 (c_of w)) (set_aof w reg)
+pub retest_is : (reg w : ℕ) → retest reg w ≡ pick (same reg no_reg || same reg (b_of w)) (abc_of Test (b_of w) 0 (c_of w)) (set_a_of w reg)
 unfolding retest same
-retest_is reg w = pick_is (eqb reg no_reg || eqb reg (b_of w)) (abc_of Test (b_of w) 0 (c_of w)) (set_aof w reg)
+retest_is reg w = pick_is (eqb reg no_reg || eqb reg (b_of w)) (abc_of Test (b_of w) 0 (c_of w)) (set_a_of w reg)
 
 -- one turn of `patch_list_aux`
 abbrev pub patch_at : ℕ → ℕ → ℕ → List ℕ → ℕ → List ℕ
