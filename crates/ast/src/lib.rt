@@ -1,4 +1,6 @@
 // What a node is: `Expr` of rilua's ast.rs without its sub-expressions, grouped by how many it has.
+#![tactic(auto)]
+
 ghost use Rattle.std.specs.Prelude.{◌≡◌};
 ghost use Rattle.ast.specs.Operators.{bin_op_of, un_op_of};
 ghost use Rattle.ast.specs.Kinds.{kind_of, map_of};
@@ -6,7 +8,7 @@ ghost use Rattle.ast.specs.Kinds.{kind_of, map_of};
 use cursor::Text;
 
 // The kinds of node, in the order of their numbers.
-#[derive(Drop)]
+#[derive(Clone, Copy)]
 pub enum Kind {
     Nil,
     True,
@@ -24,7 +26,7 @@ pub enum Kind {
     Paren,
 }
 
-#[derive(Drop)]
+#[derive(Clone, Copy)]
 pub enum KindRead {
     Unknown,
     Known(Kind),
@@ -77,7 +79,7 @@ impl Kind {
     }
 }
 
-#[derive(Drop)]
+#[derive(Clone, Copy)]
 pub enum BinOp {
     Add,
     Sub,
@@ -96,7 +98,7 @@ pub enum BinOp {
     Or,
 }
 
-#[derive(Drop)]
+#[derive(Clone, Copy)]
 pub enum UnOp {
     Neg,
     Not,
@@ -104,7 +106,7 @@ pub enum UnOp {
 }
 
 // No sub-expression.
-#[derive(Drop)]
+#[derive(Clone, Copy)]
 pub enum Leaf {
     Nil,
     True,
@@ -116,7 +118,7 @@ pub enum Leaf {
 }
 
 // One sub-expression.
-#[derive(Drop)]
+#[derive(Clone, Copy)]
 pub enum One {
     Unary(UnOp),
     Field(Text),
@@ -124,21 +126,21 @@ pub enum One {
 }
 
 // Two sub-expressions.
-#[derive(Drop)]
+#[derive(Clone, Copy)]
 pub enum Two {
     Binary(BinOp),
     Index,
 }
 
 // A function or an object, and then arguments.
-#[derive(Drop)]
+#[derive(Clone, Copy)]
 pub enum Many {
     MethodCall(Text),
     Call,
 }
 
 // What a node is, by how many sub-expressions it has; beside `Many` stands the number of arguments.
-#[derive(Drop)]
+#[derive(Clone, Copy)]
 pub enum Head {
     Leaf(Leaf),
     One(One),
@@ -147,14 +149,14 @@ pub enum Head {
 }
 
 // A node without its sub-expressions: `next` is the place behind its own fields, where the first of them stands.
-#[derive(Drop)]
+#[derive(Clone, Copy)]
 pub struct Node {
     pub head: Head,
     pub line: u32,
     pub next: usize,
 }
 
-#[derive(Drop)]
+#[derive(Clone, Copy)]
 pub enum BinOpRead {
     Unknown,
     Known(BinOp),
@@ -186,7 +188,7 @@ impl BinOp {
     }
 }
 
-#[derive(Drop)]
+#[derive(Clone, Copy)]
 pub enum UnOpRead {
     Unknown,
     Known(UnOp),

@@ -1,4 +1,6 @@
 // Lent buffers: clearing them whole. What a buffer holds is a list and then zeros (specs/Pad.antt).
+#![tactic(auto)]
+
 ghost use Rattle.std.specs.Prelude.{◌≡◌, length};
 ghost use Rattle.buffers.specs.Pad.{zeros};
 

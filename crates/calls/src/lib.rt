@@ -1,5 +1,7 @@
 // Calls, indexing, names and leaves: the part of rilua's codegen.rs that lowers a node once its sub-expressions are lowered, over the lent buffers.
 // A state and a descriptor go in by value and come back in the answer. Nothing is assumed of either.
+#![tactic(auto)]
+
 ghost use Rattle.std.specs.Prelude.{◌≡◌, ◌-◌};
 ghost use Rattle.buffers.specs.Lent.{bytes};
 ghost use Rattle.chunk.specs.declared.header.Header.{Header};

@@ -17,20 +17,20 @@ pub const MAX_LENGTH: usize = 1048576;
 pub const MAX_NESTING: usize = 200;
 
 // Where a walk has come to: the place, the line of the last node, and how many nodes there were.
-#[derive(Drop)]
+#[derive(Clone, Copy)]
 pub struct Walk {
     pub at: usize,
     pub line: u32,
     pub nodes: usize,
 }
 
-#[derive(Drop)]
+#[derive(Clone, Copy)]
 pub enum WalkEnd {
     Refused(Refusal),
     Done(Walk),
 }
 
-#[derive(Drop)]
+#[derive(Clone, Copy)]
 pub enum Form {
     Refused(Refusal),
     Formed(usize),

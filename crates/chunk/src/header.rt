@@ -9,7 +9,7 @@ use refusals::Refusal;
 pub const LUAI_MAXVARS: u8 = 200;
 
 // How many locals there are and where their names stand, the varargs bit, the number of formulas and the place of the first one.
-#[derive(Drop)]
+#[derive(Clone, Copy)]
 pub struct Header {
     pub locals: usize,
     pub names: usize,
@@ -18,13 +18,13 @@ pub struct Header {
     pub next: usize,
 }
 
-#[derive(Drop)]
+#[derive(Clone, Copy)]
 pub enum HeaderRead {
     Refused(Refusal),
     Header(Header),
 }
 
-#[derive(Drop)]
+#[derive(Clone, Copy)]
 pub enum Skipped {
     To(usize),
     Missing,

@@ -1,5 +1,7 @@
 // Conditional jumps, and `not`: goiftrue, goiffalse and what they call (rilua's codegen.rs), over the lent buffers.
 // A state and a descriptor go in by value and come back in the answer. Nothing is assumed of either.
+#![tactic(auto)]
+
 ghost use Rattle.std.specs.Prelude.{◌&&◌, ◌≡◌, ◌-◌};
 ghost use Rattle.buffers.specs.Lent.{old};
 ghost use Rattle.model.specs.declared.ExprKind.TheVariants.{Relocable};

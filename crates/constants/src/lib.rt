@@ -1,4 +1,6 @@
 // The constant table over lent kinds, values and pool: the search, and adding what is not there yet (rilua's value.rs, proto.rs and `add_constant`, `string_constant`, `nil_constant`).
+#![tactic(auto)]
+
 ghost use Rattle.std.specs.Prelude.{◌≡◌, List, false, ◌||◌, ◌&&◌, ℕ, ◌+◌, ◌*◌, ◌/◌, ◌%◌, ◌≤◌, ◌<◌, min, length, eqb, leb};
 ghost use Rattle.std.proofs.lemmas.List.Edits.{sets};
 ghost use Rattle.buffers.specs.Lent.{bytes, new, old};
@@ -14,7 +16,7 @@ use refusals::Refusal;
 
 // A constant: nil, a truth value, a number (its double and its bits), or a text by its place in the chunk. The double is there because document 01
 // asks for this form ("an enum of nil, truth, double, text place"); the table is searched and stored by the bits alone.
-#[derive(Drop)]
+#[derive(Clone, Copy)]
 pub enum Val {
     Nil,
     Bool(bool),
@@ -23,19 +25,19 @@ pub enum Val {
 }
 
 // How many entries the table has, and how many bytes of the pool they use.
-#[derive(Drop)]
+#[derive(Clone, Copy)]
 pub struct Table {
     pub count: usize,
     pub used: usize,
 }
 
-#[derive(Drop)]
+#[derive(Clone, Copy)]
 pub enum Found {
     At(usize),
     Nothing,
 }
 
-#[derive(Drop)]
+#[derive(Clone, Copy)]
 pub enum Added {
     Refused(Refusal),
     At(usize, Table),

@@ -1,4 +1,6 @@
 // The lowering for controllers: one function that C calls (include/fuchsiarasp.h).
+#![tactic(auto)]
+
 ghost use Rattle.std.specs.Prelude.{◌≡◌, length, set};
 ghost use Rattle.buffers.specs.Lent.{Rewrites, bytes, new, old};
 ghost use Rattle.buffers.specs.Pad.{pad};

@@ -1,33 +1,35 @@
 // Fields of the chunk at a place: a byte, a line, a number's bits, a text; or that bytes of it are missing. Integers are little-endian.
+#![tactic(auto)]
+
 ghost use Rattle.std.specs.Prelude.{◌≡◌, ◌+◌, ◌<◌, ◌≤◌, length};
 ghost use Rattle.cursor.specs.Fields.{le2, le4, le8, has_bytes, byte_at, line_at, bits_at, text_at};
 
 // A text by its place in the chunk.
-#[derive(Drop)]
+#[derive(Clone, Copy)]
 pub struct Text {
     pub start: usize,
     pub len: usize,
 }
 
-#[derive(Drop)]
+#[derive(Clone, Copy)]
 pub enum ByteRead {
     NoByte,
     Byte(u8),
 }
 
-#[derive(Drop)]
+#[derive(Clone, Copy)]
 pub enum LineRead {
     NoLine,
     Line(u32),
 }
 
-#[derive(Drop)]
+#[derive(Clone, Copy)]
 pub enum BitsRead {
     NoBits,
     Bits(u64),
 }
 
-#[derive(Drop)]
+#[derive(Clone, Copy)]
 pub enum TextRead {
     NoText,
     Text(Text),

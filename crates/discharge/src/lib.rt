@@ -1,5 +1,7 @@
 // Discharging: a descriptor becomes a value, a register or an RK operand. The middle part of rilua's codegen.rs, over the lent buffers.
 // A state and a descriptor go in by value and come back in the answer. Nothing is assumed of either.
+#![tactic(auto)]
+
 ghost use Rattle.std.specs.Prelude.{true, false, [], ◌≡◌, ℕ, set};
 ghost use Rattle.buffers.specs.Lent.{new, old};
 ghost use Rattle.instructions.specs.Word.{set_a_of, set_b_of, set_c_of};
@@ -419,7 +421,7 @@ fn place(code: &mut [u32], lines: &mut [u32], st: State, e: ExprContext, reg: us
 // ---- what a value is wanted as
 
 // One function brings a value to what is wanted, so that its steps stand once and a call of it copies state and descriptor once. A register that is named goes beside it.
-#[derive(Drop)]
+#[derive(Clone, Copy)]
 pub enum Want {
     // no variable any more: `discharge_vars`
     Vars,
@@ -438,7 +440,7 @@ pub enum Want {
 }
 
 // An operand: the constant at an index, or what goes to a register.
-#[derive(Drop)]
+#[derive(Clone, Copy)]
 enum Operand {
     Constant(State, usize),
     Other(State),
@@ -446,7 +448,7 @@ enum Operand {
 }
 
 // Where a value goes: it stays as it is, or goes to a register.
-#[derive(Drop)]
+#[derive(Clone, Copy)]
 enum Spot {
     Stay,
     At(State, usize),
@@ -759,7 +761,7 @@ fn as_wanted(
 // State and descriptor go to `bring_fields` number by number, and it gives back only what may have changed: a struct goes through memory, and the
 // machine waits for what is copied as soon as it is written. Without this layer a lowering of 1,000 nodes takes 49 in 100 longer, with structs in and
 // numbers out 17 (docs/BENCHMARKS.md).
-#[derive(Drop)]
+#[derive(Clone, Copy)]
 enum Brought {
     Refused(Refusal),
     Done {

@@ -1,5 +1,7 @@
 // Emitting words, listing constants and taking registers: the lower part of rilua's codegen.rs, over the lent words and lines. A state goes in by value and comes back in the answer;
 // what cannot be refused answers with the state alone. Nothing is assumed of the state.
+#![tactic(auto)]
+
 ghost use Rattle.std.specs.Prelude.{◌≡◌, ◌+◌, length};
 ghost use Rattle.buffers.specs.Lent.{Rewrites, bytes};
 ghost use Rattle.instructions.specs.Limits.{no_reg};

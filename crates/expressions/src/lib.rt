@@ -1,5 +1,7 @@
 // Expressions and argument lists, which call each other over the chunk's bytes: rilua's `compile_expr` and `compile_funcargs`.
 // Each node that has sub-expressions begins with its first one; what follows a sub-expression stands outside the recursion. Nesting falls from node to sub-expression.
+#![tactic(auto)]
+
 ghost use Rattle.std.specs.Prelude.{List, ◌≡◌, ℕ};
 ghost use Rattle.buffers.specs.Lent.{bytes};
 ghost use Rattle.chunk.specs.declared.header.Header.{Header};

@@ -1,1 +1,2 @@
 // Proof only: demand 3, one theorem for the whole chunk.
+#![tactic(auto)]

@@ -1,4 +1,6 @@
 // Doubles: the double of a bit pattern, the floor, and the folding of arithmetic on numerals (document 01, "Lowering"; rilua's `const_fold`).
+#![tactic(auto)]
+
 ghost use Rattle.std.specs.Prelude.{◌≡◌};
 ghost use Rattle.std.specs.Float.{binary64};
 ghost use Rattle.std.specs.Float.Ieee.{nan_bits};
@@ -7,7 +9,7 @@ ghost use Rattle.folding.specs.Numeral.{numeral_of, folded};
 ghost use Rattle.folding.specs.Folding.{fold_of, modulo as modulo_of};
 
 // A numeral: its bits, and beside them the double that they stand for. The bits tell two NaNs apart, which as doubles are one.
-#[derive(Drop)]
+#[derive(Clone, Copy)]
 pub struct Numeral {
     pub value: f64,
     pub bits: u64,
@@ -39,7 +41,7 @@ impl Numeral {
 }
 
 // The operators that make a number of numbers; Unm has one operand, its first.
-#[derive(Drop)]
+#[derive(Clone, Copy)]
 pub enum Arith {
     Add,
     Sub,
@@ -50,7 +52,7 @@ pub enum Arith {
     Unm,
 }
 
-#[derive(Drop)]
+#[derive(Clone, Copy)]
 pub enum Fold {
     Folded(Numeral),
     Kept,

@@ -1,4 +1,6 @@
 // What a chunk's header and formulas are lowered to: the locals' registers, the formulas one after another, `Return` (document 01, "Lowering").
+#![tactic(auto)]
+
 ghost use Rattle.buffers.specs.Lent.{bytes};
 ghost use Rattle.model.specs.Relations.{Steps, StepsWords};
 ghost use Rattle.model.specs.Lowering.{lower_chunk};

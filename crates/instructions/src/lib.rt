@@ -1,4 +1,6 @@
 // Code words: opcode in bits 0-5, A in 6-13, C in 14-22, B in 23-31, Bx in 14-31; sBx is Bx less 131,071 (rilua's instructions.rs).
+#![tactic(auto)]
+
 ghost use Rattle.std.specs.Prelude.{◌≡◌, ◌*◌, ◌/◌, ◌^◌, ◌<◌};
 ghost use Rattle.instructions.specs.Field.{get_at, set_at};
 ghost use Rattle.instructions.specs.Word.{op_of, opcode_of, a_of, b_of, c_of, bx_of, sbx_of, set_a_of, set_b_of, set_c_of, excess as excess_of, set_sbx_of, abc_of, a_bx_of, a_sbx_of};
@@ -64,7 +66,7 @@ fn excess(v: i32) -> u32
     ((n as u64) % 262144) as u32
 }
 
-#[derive(Drop)]
+#[derive(Clone, Copy)]
 pub struct Instruction {
     pub raw: u32,
 }

@@ -1,5 +1,7 @@
 // Jump lists: pending jumps threaded through the words' own sBx (rilua's codegen.rs). A list is 0 for none, or k + 1 for the word k.
 // Every function is total: a word past the end reads 0, nothing is stored there, and a walk takes at most as many turns as there are words.
+#![tactic(auto)]
+
 ghost use Rattle.std.specs.Prelude.{◌≡◌, ◌+◌, ◌-◌, ◌<◌, pos, ◌-ℤ◌, eqb, length, set};
 ghost use Rattle.buffers.specs.Lent.{new, old};
 ghost use Rattle.opcodes.specs.OpCodes.{code_of};

@@ -1,1 +1,2 @@
 // Proof only: laws that several crates cite.
+#![tactic(auto)]

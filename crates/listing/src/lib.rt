@@ -1,4 +1,6 @@
 // The weave list (document 01, "The weave list, and cases"), written into a lent buffer.
+#![tactic(auto)]
+
 ghost use Rattle.std.specs.Prelude.{◌≡◌, true, ◌+◌, ◌%◌, length, take};
 ghost use Rattle.listing.specs.Listing.{decimal as decimal_of, hex as hex_of, glyph, word_line, constant_line, word_lines, constant_lines, count_line, refusal_line, listing as listing_of};
 ghost use Rattle.listing.specs.Page.{page, put as put_of, puts, sheet, written};
@@ -7,14 +9,14 @@ use buffers::clear_bytes;
 use model::Lowered;
 
 // How far a buffer is written, and whether all has fitted.
-#[derive(Drop)]
+#[derive(Clone, Copy)]
 pub struct Pen {
     pub at: usize,
     pub room: bool,
 }
 
 // How many bytes were written; or that the buffer is too short, and then holds only zeros.
-#[derive(Drop)]
+#[derive(Clone, Copy)]
 pub enum Listed {
     Written(usize),
     Short,

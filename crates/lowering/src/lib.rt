@@ -1,4 +1,6 @@
 // The entry `lower`, which clears, checks the form, and lowers (document 01, "Refused chunks").
+#![tactic(auto)]
+
 ghost use Rattle.std.specs.Prelude.{◌≡◌, length};
 ghost use Rattle.buffers.specs.Lent.{bytes, new};
 ghost use Rattle.buffers.specs.Pad.{zeros};

@@ -1,4 +1,6 @@
 // The types that the lowering and its definitions share: the compiler's state, the expression descriptor, and the answers of the lowering's steps (rilua's codegen.rs).
+#![tactic(auto)]
+
 ghost use Rattle.std.specs.Prelude.{◌≡◌};
 ghost use Rattle.model.specs.Descriptor.{new_of, descriptor_of};
 
@@ -7,7 +9,7 @@ use folding::Numeral;
 use refusals::Refusal;
 
 // What a descriptor stands for, and so what its info and aux are.
-#[derive(Drop)]
+#[derive(Clone, Copy)]
 pub enum ExprKind {
     Nil,
     True,
@@ -35,7 +37,7 @@ pub enum ExprKind {
 }
 
 // The descriptor of an expression: what of it has been emitted, and where its value is. The jump lists t (taken where it is true) and f (where it is false) are 0 for none, or k + 1 for the word k.
-#[derive(Drop)]
+#[derive(Clone, Copy)]
 pub struct ExprContext {
     pub kind: ExprKind,
     pub info: usize,
@@ -79,7 +81,7 @@ impl ExprContext {
 // `FuncState` and the current line: the place in the chunk, the line, the words so far, the constants so far, the number of locals (`num_active_vars`),
 // the next free register (`free_reg`), the registers in all (`max_stack_size`), the jumps that lead to the word to come (a list), and the last label
 // (`last_target`: 0 for none, or k + 1 for the word k).
-#[derive(Drop)]
+#[derive(Clone, Copy)]
 pub struct State {
     pub at: usize,
     pub line: u32,
@@ -93,28 +95,28 @@ pub struct State {
 }
 
 // The answer of a step that only changes the state.
-#[derive(Drop)]
+#[derive(Clone, Copy)]
 pub enum Stepped {
     Refused(Refusal),
     Done(State),
 }
 
 // The answer of a step that also gives a number: a word, a register, a constant or a jump list.
-#[derive(Drop)]
+#[derive(Clone, Copy)]
 pub enum Given {
     Refused(Refusal),
     Done(State, usize),
 }
 
 // The answer of a step that gives a descriptor.
-#[derive(Drop)]
+#[derive(Clone, Copy)]
 pub enum Described {
     Refused(Refusal),
     Done(State, ExprContext),
 }
 
 // What a lowering gives: the counts of words, constants and text bytes, and the frame.
-#[derive(Drop)]
+#[derive(Clone, Copy)]
 pub struct Counts {
     pub words: usize,
     pub constants: usize,
@@ -123,7 +125,7 @@ pub struct Counts {
 }
 
 // The answer of a whole lowering.
-#[derive(Drop)]
+#[derive(Clone, Copy)]
 pub enum Lowered {
     Refused(Refusal),
     Done(Counts),

@@ -8,13 +8,13 @@ use ast::{BinOp, BinOpRead, Head, Kind, KindRead, Leaf, Many, Node, One, Two, Un
 use cursor::{BitsRead, ByteRead, LineRead, TextRead};
 use refusals::Refusal;
 
-#[derive(Drop)]
+#[derive(Clone, Copy)]
 pub enum NodeRead {
     Refused(Refusal),
     Node(Node),
 }
 
-#[derive(Drop)]
+#[derive(Clone, Copy)]
 pub enum Front {
     Refused(Refusal),
     Front(Kind, usize, u32),

@@ -17,14 +17,14 @@ use ast::Kind;
 use cursor::{BitsRead, ByteRead, TextRead};
 use refusals::Refusal;
 
-#[derive(Drop)]
+#[derive(Clone, Copy)]
 pub struct Extent {
     pub children: usize,
     pub line: u32,
     pub next: usize,
 }
 
-#[derive(Drop)]
+#[derive(Clone, Copy)]
 pub enum ExtentRead {
     Refused(Refusal),
     Extent(Extent),

@@ -1,8 +1,10 @@
 // The 38 opcodes and their numbers (`OpCode` of rilua's instructions.rs).
+#![tactic(auto)]
+
 ghost use Rattle.std.specs.Prelude.{◌≡◌};
 ghost use Rattle.opcodes.specs.OpCodes.{code_of, op_code_of, test_mode};
 
-#[derive(Drop)]
+#[derive(Clone, Copy)]
 pub enum OpCode {
     Move,
     LoadK,

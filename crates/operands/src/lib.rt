@@ -1,5 +1,7 @@
 // Operands: the kind of a descriptor, a value as an RK operand, registers that are free again, and of what sort an operator is (rilua's codegen.rs).
 // No buffer is touched here, and nothing is assumed.
+#![tactic(auto)]
+
 ghost use Rattle.std.specs.Prelude.{◌≡◌, leb};
 ghost use Rattle.instructions.specs.Limits.{max_index_rk};
 ghost use Rattle.model.specs.Steps.{Buffers, done};
@@ -97,7 +99,7 @@ pub fn free_both(st: State, e1: ExprContext, e2: ExprContext) -> State
 // ---- operators
 
 // `and`, `or`, `..`, arithmetic, or a comparison: its opcode, the answer for which its jump is taken, and whether the operands change places.
-#[derive(Drop)]
+#[derive(Clone, Copy)]
 pub enum Operation {
     And,
     Or,

@@ -1,5 +1,7 @@
 // Operators: infix, postfix and prefix, with folding, arithmetic, comparisons and concatenation (rilua's codegen.rs), over the lent buffers.
 // A state and descriptors go in by value and come back in the answer. Nothing is assumed of either.
+#![tactic(auto)]
+
 ghost use Rattle.std.specs.Prelude.{not, ◌&&◌, ◌≡◌};
 ghost use Rattle.model.specs.Steps.{Buffers, done, and_then, given_is, described_is};
 ghost use Rattle.model.specs.Relations.{AnswersValues, Describes, DescribesWords};

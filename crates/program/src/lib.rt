@@ -1,4 +1,6 @@
 // The program `weavelist` as functions: the list of an input, in a lent buffer; and reading, listing, writing.
+#![tactic(auto)]
+
 ghost use Rattle.std.specs.Prelude.{◌≡◌, ◌≤◌, length, take};
 ghost use Rattle.model.specs.Steps.{bufs};
 ghost use Rattle.model.specs.Claims.{sizes, Bytes};
@@ -91,7 +93,7 @@ pub fn list_bytes(input: &[u8], out: &mut [u8]) -> Listed
 }
 
 // How many bytes were read, and what was listed of them.
-#[derive(Drop)]
+#[derive(Clone, Copy)]
 pub struct InputListed {
     pub read: usize,
     pub listed: Listed,

@@ -1,10 +1,12 @@
 // A reader that borrows the chunk: its bytes and a place, in one record. Thin functions over it ask the cursor for the field there.
+#![tactic(auto)]
+
 ghost use Rattle.std.specs.Prelude.{◌≡◌};
 ghost use Rattle.cursor.specs.Fields.{byte_at, line_at, bits_at, text_at};
 
 use cursor::{BitsRead, ByteRead, LineRead, TextRead};
 
-#[derive(Drop)]
+#[derive(Clone, Copy)]
 pub struct Reader<'a> {
     pub bytes: &'a [u8],
     pub at: usize,

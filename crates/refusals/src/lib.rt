@@ -1,8 +1,10 @@
 // The refusals of documents 01 (1 to 13) and 02 (14 to 26), and the number that each has there. Those of document 02 are given from the landing of their request on.
+#![tactic(auto)]
+
 ghost use Rattle.std.specs.Prelude.{◌≡◌};
 ghost use Rattle.refusals.specs.Number.{number_of};
 
-#[derive(Drop)]
+#[derive(Clone, Copy)]
 pub enum Refusal {
     TooLong,
     Missing,

@@ -5,6 +5,8 @@
 // What is lent is full of ones before, so that zeros there are the lowering's. Of each case are printed the label; the form check's own answer; the weave
 // list, or the refusal; of an accepted chunk the frame, how many places the scratch has and the last of them, and the pool's first 64 bytes; then of each
 // buffer a sum over what is counted, if anything is, and whether zeros follow.
+#![tactic(auto)]
+
 ghost use Rattle.std.specs.Prelude.{◌<◌, ◌≤◌, ◌≡◌, length};
 
 use chunk::form::{Form, check_form};
@@ -100,7 +102,7 @@ fn lend_values(s: &mut [u64], n: usize) -> &mut [u64] {
 // ---- what is printed
 
 // How many numbers of each buffer a case lends, how long its chunk is, and the place behind the case.
-#[derive(Drop)]
+#[derive(Clone, Copy)]
 struct Case {
     code: usize,
     lines: usize,
@@ -403,7 +405,7 @@ fn put_times(s: &mut [u8], at: usize, n: usize, t: &[u8]) -> usize {
 }
 
 // How long the chunk is, and the place behind its pieces.
-#[derive(Drop)]
+#[derive(Clone, Copy)]
 struct Built {
     len: usize,
     end: usize,

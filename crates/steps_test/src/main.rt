@@ -1,5 +1,7 @@
 // Single steps of the lowering on prepared states: a line for each, with its label, what was answered, and the words that then stand there.
 // A line is read thus: what the step gives (a number, or a descriptor with its info and its lists t and f), pc, free, the table's count, the words.
+#![tactic(auto)]
+
 use conditions::{code_not, goiffalse, goiftrue};
 use constants::Table;
 use discharge::{exp2reg, exp2rk};

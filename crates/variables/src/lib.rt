@@ -1,4 +1,6 @@
 // Names of locals: rilua's `search_local`.
+#![tactic(auto)]
+
 ghost use Rattle.std.specs.Prelude.{◌≡◌, ◌+◌, ◌<◌};
 ghost use Rattle.buffers.specs.Lent.{bytes};
 ghost use Rattle.constants.specs.Entry.{same_bytes};

@@ -1,4 +1,6 @@
 // `weavelist` on an input of 65,537 bytes, which would be accepted but for its length (stdin and stdout: tools/replay.py).
+#![tactic(auto)]
+
 fn main() {
     let mut input = [0u8; 65537];
     let mut page = [0u8; 589824];
