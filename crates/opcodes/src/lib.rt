@@ -94,6 +94,7 @@ impl OpCode {
     }
 
     // The opcode of a number; `Move` above 37.
+    #[tactic(auto, unfolding(crate::specs::OpCodes::op_code_of))]
     pub fn from_u32(n: u32) -> OpCode
         ensures { op_code_of n ≡ result }
     {

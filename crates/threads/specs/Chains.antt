@@ -3,10 +3,10 @@
 use Prim.Native.Nat.{ℕ, zero, suc, ◌≤◌, ◌<◌}
 use Rattle.std.specs.Prelude.{Bool, true, false, ◌||◌, ◌≡◌, length, eqb}
 use Rattle.std.proofs.Math.Path.{refl}
-use Rattle.std.proofs.Common.{sym, ◌∙◌, arith, ne_eqb}
+use Rattle.std.proofs.Common.{sym, subst, ◌∙◌, arith, ne_eqb}
 use mathlib.Core.List.{List, [], ◌∷◌, ◌++◌, append-nil}
 use Rattle.instructions.specs.Limits.{max_words, no_reg}
-use Rattle.model.specs.Jumps.{word, get_jump_target, last_jump, concat_jumps, linked, remove_values}
+use Rattle.model.specs.Jumps.{word, get_jump_target, last_jump, concat_jumps, linked, patch_jump, remove_values}
 use Rattle.labelled.specs.Code.{same, same_refl, same_true}
 use Rattle.threads.specs.Edits.{pick_is}
 use Rattle.threads.specs.Words.{IsJ, is_jmp, next, next_same, next_link, jump_to, jumped, jumped_off, len_jump, ret, walk}
@@ -179,10 +179,18 @@ link_chain ws h p (q ∷ l) t m big lt c n d tm a =
 pub join_chain : (ws : List ℕ) (g h : ℕ) (l m : List ℕ) → Small l → Small m → Chain ws g l → NoDup l → Chain ws h m → Apart l m → length l ≤ length ws → Chain (linked ws g h) (concat_jumps g h) (l ++ m)
 unfolding linked
 join_chain ws g h [] [] b s c n d a z = rw (c, d) refl
-join_chain ws g h [] (t ∷ m) b s c n d a z = rw (c, d.0) (refl, d.1, d.2, d.3)
-join_chain ws g h (p ∷ l) [] b s c n d a z = rw (d, c.0, append-nil l) (refl, c.1, c.2, c.3)
-join_chain ws g h (p ∷ l) (t ∷ m) b s c n d a z = rw (c.0, d.0, last_chain (length ws) ws p l c.3 (omega arith))
-    (link_chain ws (suc p) p l t (t ∷ m) b (s t (mem_head t m)) (refl, c.1, c.2, c.3) n (refl, d.1, d.2, d.3) (mem_head t m) a)
+join_chain ws g h [] (t ∷ m) b s c n d a z =
+    subst (λ (x : ℕ). Chain (linked ws x h) (concat_jumps x h) (t ∷ m)) (sym c)
+    (subst (λ (y : ℕ). Chain (linked ws 0 y) (concat_jumps 0 y) (t ∷ m)) (sym d.0) (refl, d.1, d.2, d.3))
+join_chain ws g h (p ∷ l) [] b s c n d a z =
+    subst (λ (z : List ℕ). Chain (linked ws g h) (concat_jumps g h) z) (sym (append-nil (p ∷ l)))
+    (subst (λ (y : ℕ). Chain (linked ws g y) (concat_jumps g y) (p ∷ l)) (sym d)
+    (subst (λ (x : ℕ). Chain (linked ws x 0) (concat_jumps x 0) (p ∷ l)) (sym c.0) (refl, c.1, c.2, c.3)))
+join_chain ws g h (p ∷ l) (t ∷ m) b s c n d a z =
+    subst (λ (x : ℕ). Chain (linked ws x h) (concat_jumps x h) (p ∷ (l ++ t ∷ m))) (sym c.0)
+    (subst (λ (y : ℕ). Chain (linked ws (suc p) y) (concat_jumps (suc p) y) (p ∷ (l ++ t ∷ m))) (sym d.0)
+    (subst (λ (q : ℕ). Chain (patch_jump ws q t) (suc p) (p ∷ (l ++ t ∷ m))) (sym (last_chain (length ws) ws p l c.3 (omega arith)))
+    (link_chain ws (suc p) p l t (t ∷ m) b (s t (mem_head t m)) (refl, c.1, c.2, c.3) n (refl, d.1, d.2, d.3) (mem_head t m) a)))
 
 -- what `concat_jumps` does to the words: nothing, or one Jmp of the first list is sent on
 pub data Joined (ws us : List ℕ) (l : List ℕ) : Type 0 where
