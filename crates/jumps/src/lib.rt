@@ -177,6 +177,7 @@ fn test_only(w: u32) -> u32
 }
 
 // A `TestSet` with the register for its value, or a `Test` where there is none or it is the tested one.
+#[tactic(auto, unfolding(model::specs::Jumps::retest))]
 fn retest(reg: usize, w: u32) -> u32
     ensures { retest_of reg w ≡ result }
 {

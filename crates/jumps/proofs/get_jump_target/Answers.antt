@@ -10,7 +10,7 @@ unfolding get_jump_target
 returns-then-list-eq0 c = rw c.if-list-eq0.true
 
 pub behind-requires : goal.behind-requires
-behind-requires c = rw (held _ c.sbx.type-inv, ← c.sbx.ensures, ← c.word_at.ensures) (fitting c.args.code.now c.args.list (omega arith) (omega arith))
+behind-requires c = rw (held _ c.sbx.type_inv, ← c.sbx.ensures, ← c.word_at.ensures) (fitting c.args.code.now c.args.list (omega arith) (omega arith))
 
 pub returns : goal.returns
-returns c = rw (target_some _ _ c.if-list-eq0.false, c.word_at.ensures, c.sbx.ensures) (rw (held _ c.sbx.type-inv) at c.behind.ensures)
+returns c = rw (target_some _ _ c.if-list-eq0.false, c.word_at.ensures, c.sbx.ensures) (rw (held _ c.sbx.type_inv) at c.behind.ensures)
