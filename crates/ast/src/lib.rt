@@ -34,6 +34,7 @@ pub enum KindRead {
 
 impl Kind {
     // The kind of a number, 0 to 13.
+    #[tactic(auto, unfolding(crate::specs::Kinds::kind_of))]
     pub fn from_u8(n: u8) -> KindRead
         ensures { kind_of n ≡ result }
     {
@@ -164,6 +165,7 @@ pub enum BinOpRead {
 
 impl BinOp {
     // The operator of a number, 0 to 14.
+    #[tactic(auto, unfolding(crate::specs::Operators::bin_op_of))]
     pub fn from_u8(n: u8) -> BinOpRead
         ensures { bin_op_of n ≡ result }
     {
@@ -196,6 +198,7 @@ pub enum UnOpRead {
 
 impl UnOp {
     // The operator of a number, 0 to 2.
+    #[tactic(auto, unfolding(crate::specs::Operators::un_op_of))]
     pub fn from_u8(n: u8) -> UnOpRead
         ensures { un_op_of n ≡ result }
     {

@@ -1,4 +1,6 @@
 // A node's fields, with its refusals in their order.
+#![tactic(auto, using(cursor::specs::Inside::byte_inside, cursor::specs::Inside::line_inside, cursor::specs::Inside::bits_inside, cursor::specs::Inside::text_inside), unfolding(crate::specs::Nodes::fields_at, crate::specs::Nodes::node_at))]
+
 ghost use Rattle.std.specs.Prelude.{◌≡◌, List, Bool, ℕ};
 ghost use Rattle.nodes.specs.Nodes.{node, node_at, fields_at, front_at};
 ghost use Rattle.ast.specs.declared.Head.TheVariants as head;
@@ -145,6 +147,7 @@ fn read_call(chunk: &[u8], at: usize, line: u32) -> NodeRead
 }
 
 // The fields behind kind, map and line.
+#[tactic(auto)]
 fn read_fields(chunk: &[u8], varargs: bool, kind: Kind, at: usize, line: u32) -> NodeRead
     ensures { fields_at chunk.now varargs kind at line ≡ result }
 {

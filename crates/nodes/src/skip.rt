@@ -1,4 +1,6 @@
 // Where a node's own fields end, its line, and how many sub-expressions follow: the form check needs no more, so no head is built for it.
+#![tactic(auto, using(cursor::specs::Inside::byte_inside, cursor::specs::Inside::bits_inside, cursor::specs::Inside::text_inside), unfolding(crate::specs::Nodes::fields_at, crate::specs::Nodes::node_at))]
+
 ghost use Rattle.std.specs.Prelude.{◌≡◌, List, Bool, ℕ, ◌+◌, ◌<◌, ◌≤◌};
 ghost use Rattle.cursor.specs.Fields.{byte_at, text_at, end_of};
 ghost use Rattle.cursor.specs.declared.Text.{Text};
@@ -102,6 +104,7 @@ fn skip_method_call(chunk: &[u8], at: usize, line: u32) -> ExtentRead
 }
 
 // The fields behind kind, map and line.
+#[tactic(auto)]
 fn skip_fields(chunk: &[u8], varargs: bool, kind: Kind, at: usize, line: u32) -> ExtentRead
     ensures { extent_of (fields_at chunk.now varargs kind at line) ≡ result }
 {

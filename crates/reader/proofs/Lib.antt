@@ -1,3 +1,0 @@
-pub mod Field
-pub mod Getting
-pub mod Reading
