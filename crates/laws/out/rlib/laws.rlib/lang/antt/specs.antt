@@ -1,3 +1,0 @@
-pub mod Matched
-pub mod Truth
-pub mod Stores
