@@ -1,11 +1,11 @@
 -- Lent buffers, as contracts speak of them. Assumes nothing.
 use Rattle.std.specs.Prelude.{ℕ, List, ◌≡◌}
-use Rattle.std.specs.Borrow.{Bor}
+use Rattle.std.specs.Borrow.{Bor, MutBor}
 use denote.Triple.Both.{Both}
 
--- a slice that is lent to a function: `.entry` as it came, `.exit` as it is left
+-- a slice that is lent to a function to be changed: `.entry` as it came, `.exit` as it is left
 abbrev pub Lent : Type 0
-Lent = Both (Bor (List ℕ)) (Bor (List ℕ))
+Lent = Both (MutBor (List ℕ)) (MutBor (List ℕ))
 
 -- what a buffer held when it came, and what it holds when it is left
 abbrev pub old : Lent → List ℕ
@@ -14,8 +14,12 @@ old l = l.entry.now
 abbrev pub new : Lent → List ℕ
 new l = l.exit.now
 
--- what a slice holds that is lent for reading only
-abbrev pub bytes : Lent → List ℕ
+-- a slice that is lent to a function for reading only
+abbrev pub Read : Type 0
+Read = Both (Bor (List ℕ)) (Bor (List ℕ))
+
+-- what it holds
+abbrev pub bytes : Read → List ℕ
 bytes l = l.entry.now
 
 -- a lent buffer is changed by f

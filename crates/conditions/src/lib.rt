@@ -3,7 +3,7 @@
 #![tactic(auto)]
 
 ghost use Rattle.std.specs.Prelude.{◌&&◌, ◌≡◌, ◌-◌};
-ghost use Rattle.buffers.specs.Lent.{old};
+ghost use Rattle.buffers.specs.Lent.{bytes};
 ghost use Rattle.model.specs.declared.ExprKind.TheVariants.{Relocable};
 ghost use Rattle.model.specs.declared.State.{State};
 ghost use Rattle.model.specs.Steps.{done};
@@ -65,7 +65,7 @@ pub fn invertjump(code: &mut [u32], e: ExprContext)
 
 // Whether the value is a word of this opcode that is still to get its register.
 pub fn is_relocable(code: &[u32], e: ExprContext, op: OpCode) -> bool
-    ensures { (is_kind Relocable e && is_op op (word (old code) e.info)) ≡ result }
+    ensures { (is_kind Relocable e && is_op op (word (bytes code) e.info)) ≡ result }
 {
     if is_kind(e, ExprKind::Relocable) {
         let i = Instruction {

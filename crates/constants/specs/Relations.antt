@@ -1,13 +1,13 @@
 -- What the contracts of the constant table say, over lent kinds, values and pool. Assumes nothing.
 use Rattle.std.specs.Prelude.{ℕ, Bool, List, ◌≡◌}
-use Rattle.buffers.specs.Lent.{Lent, old, new}
+use Rattle.buffers.specs.Lent.{Lent, Read, bytes, old, new}
 use Rattle.constants.specs.declared.Added.{Added}
 use Rattle.constants.specs.declared.Found.{Found}
 use Rattle.constants.specs.Table.{Out, out, find}
 
 -- r is what is found among the first n entries
-abbrev pub Finds : (ℕ → ℕ → Bool) → ℕ → Found → Lent → Lent → Type 0
-Finds fits n r kinds values = find fits n (old kinds) (old values) ≡ r
+abbrev pub Finds : (ℕ → ℕ → Bool) → ℕ → Found → Read → Read → Type 0
+Finds fits n r kinds values = find fits n (bytes kinds) (bytes values) ≡ r
 
 -- r is the answer of a change of the table, and the buffers are left as it leaves them
 abbrev pub Stores : (List ℕ → List ℕ → List ℕ → Out) → Added → Lent → Lent → Lent → Type 0

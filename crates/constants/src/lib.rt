@@ -45,7 +45,7 @@ pub enum Added {
 
 // The part of a slice of `len` from `start`, as far as it goes.
 pub fn part(s: &[u8], start: usize, len: usize) -> &[u8]
-    ensures { part_of (old s) start len ≡ result.now }
+    ensures { part_of (bytes s) start len ≡ result.now }
 {
     let n = s.len();
     if n < start {
@@ -67,7 +67,7 @@ fn wide(b: u8) -> u32
 // Four bytes as one number, so that they are compared in one step.
 fn four(s: &[u8], at: usize) -> u32
     requires { at + 4 ≤ length s.now }
-    ensures { (four_of (old s) at ≡ result) × FourBytes (old s) at }
+    ensures { (four_of (bytes s) at ≡ result) × FourBytes (bytes s) at }
 {
     let a = wide(s[at]);
     let b = wide(s[at + 1]);
@@ -78,7 +78,7 @@ fn four(s: &[u8], at: usize) -> u32
 
 // From the end, where names made by counting differ, four bytes at a time and then the rest.
 pub fn same_bytes(a: &[u8], b: &[u8]) -> bool
-    ensures { same_bytes (old a) (old b) ≡ result }
+    ensures { same_bytes (bytes a) (bytes b) ≡ result }
 {
     if a.len() != b.len() {
         return false;
@@ -115,7 +115,7 @@ fn least(a: usize, b: usize) -> usize
 // Of the first `n` entries the first of this kind, whatever its value.
 fn find_kind(kinds: &[u8], n: usize, kind: u8) -> Found
     requires { n ≤ length kinds.now }
-    ensures { (ws : List ℕ) → n ≤ length ws → find_in (λ k w. eqb k kind) n (old kinds) ws ≡ result }
+    ensures { (ws : List ℕ) → n ≤ length ws → find_in (λ k w. eqb k kind) n (bytes kinds) ws ≡ result }
 {
     let mut at = 0;
     while at < n {
@@ -130,7 +130,7 @@ fn find_kind(kinds: &[u8], n: usize, kind: u8) -> Found
 // Whether one of four values is this.
 fn in_four(values: &[u64], at: usize, bits: u64) -> bool
     requires { at + 4 ≤ length values.now }
-    ensures { in_four (old values) at bits ≡ result }
+    ensures { in_four (bytes values) at bits ≡ result }
 {
     if values[at] == bits {
         return true;
@@ -147,7 +147,7 @@ fn in_four(values: &[u64], at: usize, bits: u64) -> bool
 // A place before which none of the values is this one, found four by four; how far on it lies the contract leaves free.
 fn past_fours(values: &[u64], n: usize, bits: u64) -> usize
     requires { n ≤ length values.now }
-    ensures { Without (old values) result bits }
+    ensures { Without (bytes values) result bits }
 {
     let mut i = 0;
     while 4 <= n - i {
@@ -178,7 +178,7 @@ fn find_bits(kinds: &[u8], values: &[u64], n: usize, bits: u64) -> Found
 
 // Whether a text's entry of this value is `text`.
 fn is_text(value: u64, pool: &[u8], text: &[u8]) -> bool
-    ensures { same_bytes (part_of (old pool) (value / 65536) (value % 65536)) (bytes text) ≡ result }
+    ensures { same_bytes (part_of (bytes pool) (value / 65536) (value % 65536)) (bytes text) ≡ result }
 {
     let at = (value / 65536) as usize;
     let n = (value % 65536) as usize;
@@ -195,7 +195,7 @@ fn is_text(value: u64, pool: &[u8], text: &[u8]) -> bool
 
 // Whether the pool's last bytes are `text`.
 fn at_end(pool: &[u8], text: &[u8]) -> bool
-    ensures { same_bytes (tail_of (length (bytes text)) (old pool)) (bytes text) ≡ result }
+    ensures { same_bytes (tail_of (length (bytes text)) (bytes pool)) (bytes text) ≡ result }
 {
     let n = text.len();
     let size = pool.len();
@@ -209,7 +209,7 @@ fn at_end(pool: &[u8], text: &[u8]) -> bool
 // Whether a text's entry of this value has this length and these last four bytes.
 fn ends_alike(value: u64, pool: &[u8], len: usize, last: u32) -> bool
     requires { 4 ≤ len }
-    ensures { ends_alike (old pool) len last value ≡ result }
+    ensures { ends_alike (bytes pool) len last value ≡ result }
 {
     if (value % 65536) as usize != len {
         return false;
@@ -224,7 +224,7 @@ fn ends_alike(value: u64, pool: &[u8], len: usize, last: u32) -> bool
 // Of the first `n` entries the first that is `text`, each text compared.
 fn find_each(kinds: &[u8], values: &[u64], pool: &[u8], n: usize, text: &[u8]) -> Found
     requires { (n ≤ length kinds.now) × (n ≤ length values.now) }
-    ensures { Finds (is_text (old pool) (bytes text)) n result kinds values }
+    ensures { Finds (is_text (bytes pool) (bytes text)) n result kinds values }
 {
     let mut i = 0;
     while i < n {
@@ -241,7 +241,7 @@ fn find_each(kinds: &[u8], values: &[u64], pool: &[u8], n: usize, text: &[u8]) -
 // The same, and only texts compared that end as `text` does. A text that the pool's end cuts off isn't as long as its entry says, so it would be passed over; none such is `text` where the pool's last bytes aren't.
 fn find_alike(kinds: &[u8], values: &[u64], pool: &[u8], n: usize, text: &[u8]) -> Found
     requires { (n ≤ length kinds.now) × (n ≤ length values.now) × (4 ≤ length text.now) × (same_bytes (tail_of (length text.now) pool.now) text.now ≡ false) }
-    ensures { Finds (is_text (old pool) (bytes text)) n result kinds values }
+    ensures { Finds (is_text (bytes pool) (bytes text)) n result kinds values }
 {
     let len = text.len();
     let last = four(text, len - 4);
@@ -262,7 +262,7 @@ fn find_alike(kinds: &[u8], values: &[u64], pool: &[u8], n: usize, text: &[u8]) 
 // Of the first `n` entries the first that is `text`.
 fn find_text(kinds: &[u8], values: &[u64], pool: &[u8], n: usize, text: &[u8]) -> Found
     requires { (n ≤ length kinds.now) × (n ≤ length values.now) }
-    ensures { Finds (is_text (old pool) (bytes text)) n result kinds values }
+    ensures { Finds (is_text (bytes pool) (bytes text)) n result kinds values }
 {
     if text.len() < 4 {
         return find_each(kinds, values, pool, n, text);
@@ -276,7 +276,7 @@ fn find_text(kinds: &[u8], values: &[u64], pool: &[u8], n: usize, text: &[u8]) -
 // The first of the first `count` entries that is the constant v. What stands at or above the count is never looked at.
 // A loop for each kind of constant, so that none asks at each entry what v is.
 pub fn find(kinds: &[u8], values: &[u64], pool: &[u8], chunk: &[u8], count: usize, v: Val) -> Found
-    ensures { Finds (holds (old pool) (bytes chunk) v) count result kinds values }
+    ensures { Finds (holds (bytes pool) (bytes chunk) v) count result kinds values }
 {
     let n = least(count, least(kinds.len(), values.len()));
     match v {
@@ -298,7 +298,7 @@ pub fn find_numeral(kinds: &[u8], values: &[u64], count: usize, bits: u64) -> Fo
 // Stores the bytes of `from` in `to` from `at` on.
 fn copy(to: &mut [u8], at: usize, from: &[u8])
     requires { at + length from.now ≤ length to.old }
-    ensures { sets (old to) at (old from) ≡ new to }
+    ensures { sets (old to) at (bytes from) ≡ new to }
 {
     let mut done = 0;
     while done < from.len() {

@@ -3,7 +3,7 @@
 #![tactic(auto)]
 
 ghost use Rattle.std.specs.Prelude.{true, false, [], ◌≡◌, ℕ, set};
-ghost use Rattle.buffers.specs.Lent.{new, old};
+ghost use Rattle.buffers.specs.Lent.{bytes, new, old};
 ghost use Rattle.instructions.specs.Word.{set_a_of, set_b_of, set_c_of};
 ghost use Rattle.model.specs.declared.ExprKind.TheVariants.{Nil, KNum, Global, Indexed, NonReloc, Call, VarArg};
 ghost use Rattle.model.specs.declared.State.{State};
@@ -364,7 +364,7 @@ fn load_both(code: &mut [u32], lines: &mut [u32], st: State, e: ExprContext, reg
 
 // Whether some jump of either list brings no value.
 fn lacks_value(code: &[u32], e: ExprContext) -> bool
-    ensures { lacks_value e (old code) ≡ result }
+    ensures { lacks_value e (bytes code) ≡ result }
 {
     if need_value(code, e.t) {
         return true;

@@ -101,6 +101,7 @@ fn result(x: f64) -> Fold
 }
 
 // The numeral that an operation on numerals is folded to, or that it is kept for the run.
+#[tactic(auto, unfolding(crate::specs::Folding::fold_of))]
 pub fn const_fold(op: Arith, a: f64, b: f64) -> Fold
     ensures { fold_of op a b ≡ result }
 {

@@ -3,7 +3,7 @@
 #![tactic(auto)]
 
 ghost use Rattle.std.specs.Prelude.{◌≡◌, ◌+◌, ◌-◌, ◌<◌, pos, ◌-ℤ◌, eqb, length, set};
-ghost use Rattle.buffers.specs.Lent.{new, old};
+ghost use Rattle.buffers.specs.Lent.{bytes, new, old};
 ghost use Rattle.opcodes.specs.OpCodes.{code_of};
 ghost use Rattle.opcodes.specs.declared.OpCode.TheVariants.{Test, TestSet};
 ghost use Rattle.instructions.specs.Word.{op_of, b_of, c_of, abc_of, excess};
@@ -15,7 +15,7 @@ use opcodes::OpCode;
 
 // `get_instruction`: the word at pc.
 pub fn word_at(code: &[u32], pc: usize) -> u32
-    ensures { word (old code) pc ≡ result }
+    ensures { word (bytes code) pc ≡ result }
 {
     if pc < code.len() { code[pc] } else { 0 }
 }
@@ -48,7 +48,7 @@ fn behind(list: usize, sbx: i32) -> usize
 }
 
 pub fn get_jump_target(code: &[u32], list: usize) -> usize
-    ensures { get_jump_target (old code) list ≡ result }
+    ensures { get_jump_target (bytes code) list ≡ result }
 {
     if list == 0 {
         return 0;
@@ -83,7 +83,7 @@ pub fn patch_jump(code: &mut [u32], list: usize, target: usize)
 
 // The last jump of a list.
 fn last_jump(code: &[u32], list: usize) -> usize
-    ensures { last_jump (length (old code)) (old code) list ≡ result }
+    ensures { last_jump (length (bytes code)) (bytes code) list ≡ result }
 {
     let mut l = list;
     let mut left = code.len();
@@ -115,7 +115,7 @@ pub fn concat_jumps(code: &mut [u32], l1: usize, l2: usize) -> usize
 
 // The test before the jump at pc, else the jump itself.
 pub fn get_jump_control(code: &[u32], pc: usize) -> usize
-    ensures { get_jump_control (old code) pc ≡ result }
+    ensures { get_jump_control (bytes code) pc ≡ result }
 {
     if pc == 0 {
         return 0;
@@ -131,7 +131,7 @@ pub fn get_jump_control(code: &[u32], pc: usize) -> usize
 
 // The word that controls a list's first jump.
 fn control(code: &[u32], list: usize) -> usize
-    ensures { control_of (old code) list ≡ result }
+    ensures { control_of (bytes code) list ≡ result }
 {
     if list == 0 {
         return 0;
@@ -149,7 +149,7 @@ fn is_test_set(w: u32) -> bool
 
 // Whether some jump of the list isn't controlled by a `TestSet`.
 pub fn need_value(code: &[u32], list: usize) -> bool
-    ensures { need_value (length (old code)) (old code) list ≡ result }
+    ensures { need_value (length (bytes code)) (bytes code) list ≡ result }
 {
     let mut l = list;
     let mut left = code.len();
@@ -177,6 +177,7 @@ fn test_only(w: u32) -> u32
 }
 
 // A `TestSet` with the register for its value, or a `Test` where there is none or it is the tested one.
+#[tactic(auto, unfolding(model::specs::Jumps::retest))]
 fn retest(reg: usize, w: u32) -> u32
     ensures { retest_of reg w ≡ result }
 {
