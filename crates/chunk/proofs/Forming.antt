@@ -12,7 +12,7 @@ use Rattle.refusals.specs.declared.Refusal.{Refusal}
 use Rattle.refusals.specs.declared.Refusal.TheVariants as refusal
 use Rattle.chunk.specs.Ast.{Exprs, spans_of, places_of}
 use Rattle.chunk.specs.Headers.{header_at}
-use Rattle.chunk.specs.Form.{Parsed, parsed, refused, Formed, expr_at, exprs_at, max_length, max_nesting, with_exprs, ended, form_of}
+use Rattle.chunk.specs.Form.{Parsed, parsed, refused, expr_at, exprs_at, max_length, max_nesting, with_exprs, ended, form_of}
 use Rattle.chunk.specs.Walks.{passed, Walked, checked, out}
 use Rattle.chunk.specs.declared.header.Header.{Header}
 use Rattle.chunk.specs.declared.header.HeaderRead.TheVariants as header

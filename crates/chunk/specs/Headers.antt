@@ -4,7 +4,6 @@ use Rattle.refusals.specs.declared.Refusal.TheVariants as refusal
 use Rattle.cursor.specs.Fields.{byte_at, text_at, end_of}
 use Rattle.nodes.specs.Nodes.{with_byte, with_text, require}
 use Rattle.cursor.specs.declared.Text.{Text}
-use Rattle.chunk.specs.declared.header.Header.{Header}
 use Rattle.chunk.specs.declared.header.HeaderRead.{HeaderRead}
 use Rattle.chunk.specs.declared.header.HeaderRead.TheVariants as read
 use Rattle.chunk.specs.declared.header.Skipped.{Skipped}

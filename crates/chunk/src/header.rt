@@ -1,4 +1,6 @@
 // The header: a map byte, the locals' names if its bit 0 stands, whether there are varargs (bit 1), and the number of formulas.
+#![tactic(auto, using(cursor::specs::Inside::byte_inside, cursor::specs::Inside::text_inside, crate::specs::Skipping::skip_more, crate::specs::Skipping::skip_cut, crate::specs::Skipping::skip_end, crate::specs::Skipping::varargs_bit), unfolding(crate::specs::Headers::formulas_at, crate::specs::Headers::header_at))]
+
 ghost use Rattle.std.specs.Prelude.{◌≡◌};
 ghost use Rattle.chunk.specs.Headers.{names_at, skipped, header_at, formulas_at};
 

@@ -25,6 +25,7 @@ fn same_text(chunk: &[u8], a: Text, b: Text) -> bool
 }
 
 // i + 1 where the name there is the one sought, else what was found before.
+#[tactic(auto, unfolding(crate::specs::Found::newest))]
 fn newer(chunk: &[u8], name: Text, sought: Text, i: usize, last: usize) -> usize
     requires { i < 18446744073709551615 }
     ensures { newest (bytes chunk) (bytes_of (bytes chunk) sought) name i last ≡ result }
@@ -36,6 +37,7 @@ fn newer(chunk: &[u8], name: Text, sought: Text, i: usize, last: usize) -> usize
 }
 
 // The last local of this name: its register.
+#[tactic(auto, using(cursor::specs::Inside::text_inside, crate::proofs::Seeking::sought_all, crate::proofs::Seeking::sought_cut, crate::proofs::Seeking::sought_end, crate::proofs::Seeking::decode_none, crate::proofs::Seeking::decode_some))]
 pub fn search_local(chunk: &[u8], h: Header, t: Text) -> Found
     ensures { register_named (bytes chunk) h t ≡ found_is result }
 {

@@ -1,0 +1,9 @@
+-- One turn of the search (`sought_more`), at a count that the code lowers by raising i.
+use Rattle.std.proofs.Common.{◌≡◌, ◌∙◌, ◌+◌, ◌-◌, arith}
+use Rattle.variables.proofs.Seeking.{sought_more}
+use Rattle.variables.proofs.search_local.Goals as goal
+
+pub loop-i-preserved : goal.loop-i-preserved
+loop-i-preserved c =
+    let e : c.args.h.locals - (c.loop-i.i + 1) ≡ c.args.h.locals - c.loop-i.i - 1 = omega arith in
+    rw (e, ← c.newer-last.ensures) (c.loop-i.invariant ∙ sought_more _ _ _ _ _ (c.args.h.locals - c.loop-i.i) _ (omega arith) (c.read_text.ensures ∙ c.in-Text.is))
