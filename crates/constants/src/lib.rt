@@ -77,6 +77,7 @@ fn four(s: &[u8], at: usize) -> u32
 }
 
 // From the end, where names made by counting differ, four bytes at a time and then the rest.
+#[tactic(auto, using(crate::specs::Laws::same_bytes_false, crate::specs::Laws::same_bytes_refl))]
 pub fn same_bytes(a: &[u8], b: &[u8]) -> bool
     ensures { same_bytes (bytes a) (bytes b) ≡ result }
 {
@@ -113,6 +114,7 @@ fn least(a: usize, b: usize) -> usize
 }
 
 // Of the first `n` entries the first of this kind, whatever its value.
+#[tactic(auto, using(crate::proofs::Steps::found_first, crate::proofs::Steps::found_nowhere))]
 fn find_kind(kinds: &[u8], n: usize, kind: u8) -> Found
     requires { n ≤ length kinds.now }
     ensures { (ws : List ℕ) → n ≤ length ws → find_in (λ k w. eqb k kind) n (bytes kinds) ws ≡ result }
@@ -160,6 +162,7 @@ fn past_fours(values: &[u64], n: usize, bits: u64) -> usize
 }
 
 // Of the first `n` entries the first number of these bits: 0.0 and -0.0 are two constants, and a NaN is itself.
+#[tactic(auto, using(crate::proofs::Steps::found_first, crate::proofs::Steps::found_nowhere))]
 fn find_bits(kinds: &[u8], values: &[u64], n: usize, bits: u64) -> Found
     requires { (n ≤ length kinds.now) × (n ≤ length values.now) }
     ensures { Finds (λ k w. eqb w bits && eqb k 3) n result kinds values }
@@ -177,6 +180,7 @@ fn find_bits(kinds: &[u8], values: &[u64], n: usize, bits: u64) -> Found
 }
 
 // Whether a text's entry of this value is `text`.
+#[tactic(auto, using(crate::proofs::Steps::part_length, crate::specs::Laws::same_bytes_false))]
 fn is_text(value: u64, pool: &[u8], text: &[u8]) -> bool
     ensures { same_bytes (part_of (bytes pool) (value / 65536) (value % 65536)) (bytes text) ≡ result }
 {
@@ -194,6 +198,7 @@ fn is_text(value: u64, pool: &[u8], text: &[u8]) -> bool
 }
 
 // Whether the pool's last bytes are `text`.
+#[tactic(auto, using(crate::proofs::Steps::no_tail))]
 fn at_end(pool: &[u8], text: &[u8]) -> bool
     ensures { same_bytes (tail_of (length (bytes text)) (bytes pool)) (bytes text) ≡ result }
 {
@@ -222,6 +227,7 @@ fn ends_alike(value: u64, pool: &[u8], len: usize, last: u32) -> bool
 }
 
 // Of the first `n` entries the first that is `text`, each text compared.
+#[tactic(auto, using(crate::proofs::Steps::found_first, crate::proofs::Steps::found_nowhere))]
 fn find_each(kinds: &[u8], values: &[u64], pool: &[u8], n: usize, text: &[u8]) -> Found
     requires { (n ≤ length kinds.now) × (n ≤ length values.now) }
     ensures { Finds (is_text (bytes pool) (bytes text)) n result kinds values }
@@ -239,6 +245,7 @@ fn find_each(kinds: &[u8], values: &[u64], pool: &[u8], n: usize, text: &[u8]) -
 }
 
 // The same, and only texts compared that end as `text` does. A text that the pool's end cuts off isn't as long as its entry says, so it would be passed over; none such is `text` where the pool's last bytes aren't.
+#[tactic(auto, using(crate::proofs::Steps::found_first, crate::proofs::Steps::found_nowhere, crate::proofs::Steps::not_alike))]
 fn find_alike(kinds: &[u8], values: &[u64], pool: &[u8], n: usize, text: &[u8]) -> Found
     requires { (n ≤ length kinds.now) × (n ≤ length values.now) × (4 ≤ length text.now) × (same_bytes (tail_of (length text.now) pool.now) text.now ≡ false) }
     ensures { Finds (is_text (bytes pool) (bytes text)) n result kinds values }
@@ -275,6 +282,7 @@ fn find_text(kinds: &[u8], values: &[u64], pool: &[u8], n: usize, text: &[u8]) -
 
 // The first of the first `count` entries that is the constant v. What stands at or above the count is never looked at.
 // A loop for each kind of constant, so that none asks at each entry what v is.
+#[tactic(auto, using(crate::proofs::Steps::found_by, crate::proofs::Steps::holds_kind, crate::proofs::Steps::holds_truth), unfolding(crate::specs::Entry::entry_of, crate::specs::Entry::same))]
 pub fn find(kinds: &[u8], values: &[u64], pool: &[u8], chunk: &[u8], count: usize, v: Val) -> Found
     ensures { Finds (holds (bytes pool) (bytes chunk) v) count result kinds values }
 {
@@ -288,6 +296,7 @@ pub fn find(kinds: &[u8], values: &[u64], pool: &[u8], chunk: &[u8], count: usiz
 }
 
 // The same for a number alone, which needs neither pool nor chunk. It stands apart so that `find` has a single call, which the compiler inlines.
+#[tactic(auto, using(crate::proofs::Steps::found_by, crate::proofs::Steps::holds_kind), unfolding(crate::specs::Entry::entry_of, crate::specs::Entry::same))]
 pub fn find_numeral(kinds: &[u8], values: &[u64], count: usize, bits: u64) -> Found
     ensures { (p c : List ℕ) (v : Val) → constant_of c v ≡ number bits → Finds (holds p c v) count result kinds values }
 {
@@ -406,6 +415,7 @@ fn append(
 }
 
 // The index of the constant v: that of its entry, or of a new one behind the others. 11 where no entry is free, else 12 where a text doesn't fit the pool.
+#[tactic(auto, unfolding(crate::specs::Table::added))]
 pub fn add_constant(
     kinds: &mut [u8],
     values: &mut [u64],

@@ -24,6 +24,7 @@ fn is_nan_pattern(bits: u64) -> bool
 
 impl Numeral {
     // The numeral of any pattern, with a NaN for every NaN's.
+    #[tactic(auto, using(crate::proofs::Floats::nan_made))]
     pub fn from_bits(bits: u64) -> Numeral
         ensures { numeral_of bits ≡ result }
     {
@@ -88,6 +89,7 @@ fn modulo(a: f64, b: f64) -> f64
 }
 
 // A result, with its bits, unless it is a NaN.
+#[tactic(auto, using(crate::proofs::Floats::ne_nan))]
 fn result(x: f64) -> Fold
     ensures { folded x ≡ result }
 {
