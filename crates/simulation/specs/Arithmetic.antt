@@ -6,7 +6,7 @@ use Rattle.std.proofs.Math.Option.{Option, some, none}
 use Rattle.instructions.specs.Limits.{bit_rk, max_stack}
 use Rattle.instructions.specs.Word.{abc_of}
 use Rattle.folding.specs.Folding.{fold_of}
-use Rattle.folding.specs.Laws.{fold_bits}
+use Rattle.folding.proofs.Laws.{fold_bits}
 use Rattle.folding.specs.declared.Numeral.{Numeral as Numeral'}
 use Rattle.folding.specs.declared.Arith.{Arith}
 use Rattle.folding.specs.declared.Fold.{Fold}

@@ -9,7 +9,7 @@ use Rattle.instructions.specs.Word.{abc_of}
 use Rattle.opcodes.specs.declared.OpCode.{OpCode}
 use Rattle.opcodes.specs.declared.OpCode.TheVariants as op
 use Rattle.folding.specs.Folding.{fold_of}
-use Rattle.folding.specs.Laws.{fold_bits}
+use Rattle.folding.proofs.Laws.{fold_bits}
 use Rattle.folding.specs.declared.Arith.TheVariants as ar
 use Rattle.folding.specs.declared.Fold.{Fold}
 use Rattle.folding.specs.declared.Fold.TheVariants.{Folded, Kept}
