@@ -2,9 +2,6 @@
 use Rattle.listing.specs.Laws.{put_here, put_over, put_full}
 use Rattle.listing.proofs.put.Goals as goal
 
-pub put_spec : {M : Type 1} → statement M
-put_spec = tie.close (tie.spec slice-write-out add-t9 same_length returns returns-2 returns-3)
-
 pub returns-then-at-out : goal.returns-then-at-out
 returns-then-at-out c = put_here _ _ _ c.if-pen.true c.if-at-out.true
 

@@ -1,5 +1,4 @@
 -- `listing::text` meets its contract: before each turn, what is still to be put, put here, is the whole text put at the start. Assumes nothing.
-use Prim.Native.Nat.{◌-◌}
 use mathlib.Core.Path.{sym, ◌∙◌}
 use Rattle.listing.specs.Laws.{text_turn, text_all}
 use native.Mathlib.Omega.{arith}
