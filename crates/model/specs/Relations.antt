@@ -1,6 +1,6 @@
 -- What the contracts of the lowering say: a definition, on the lent buffers as they came, is the answer on the buffers as they are left. Assumes nothing.
 use Rattle.std.specs.Prelude.{ℕ, List, ◌≡◌, length}
-use Rattle.buffers.specs.Lent.{Lent, old, new}
+use Rattle.buffers.specs.Lent.{Lent, Read, bytes, old, new}
 use Rattle.chunk.specs.declared.header.Header.{Header}
 use Rattle.model.specs.declared.State.{State}
 use Rattle.model.specs.declared.ExprContext.{ExprContext}
@@ -36,9 +36,9 @@ module _ {A : Type 0} (x : Step A) (s : State) (a : Buffers → Result A) where
   abbrev pub AnswersConstants : Lent → Lent → Lent → Type 0
   AnswersConstants kinds values pool = (cs ls : List ℕ) → x s (bufs cs ls (old kinds) (old values) (old pool)) ≡ a (bufs cs ls (new kinds) (new values) (new pool))
 
-  -- .. with only the constants lent, without their texts
-  abbrev pub AnswersValues : Lent → Lent → Type 0
-  AnswersValues kinds values = (cs ls p : List ℕ) → x s (bufs cs ls (old kinds) (old values) p) ≡ a (bufs cs ls (new kinds) (new values) p)
+  -- .. with only the constants lent, without their texts, and for reading only
+  abbrev pub AnswersValues : Read → Read → Type 0
+  AnswersValues kinds values = (cs ls p : List ℕ) → x s (bufs cs ls (bytes kinds) (bytes values) p) ≡ a (bufs cs ls (bytes kinds) (bytes values) p)
 
 -- a step that only changes the state
 abbrev pub Steps : Step (Unit {0}) → State → Stepped → Lent → Lent → Lent → Lent → Lent → Type 0
