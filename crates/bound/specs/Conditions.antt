@@ -1,21 +1,20 @@
 -- What conditional jumps and `not` take: a test and its jump behind the value; a `Not` behind it, or a truth value, which may become a constant. `pop` takes a word back, which isn't counted.
-use Rattle.std.specs.Prelude.{ℕ, ◌+◌, ◌-◌, ◌*◌, ◌≤◌, Bool, ◌≡◌, eqb}
-use Rattle.std.proofs.Math.Bool.{true, false}
+-- What rests on something that a must-fail edit breaks stands in proofs/Conditions.antt.
+use Rattle.std.specs.Prelude.{ℕ, ◌+◌, ◌-◌, ◌≤◌, ◌≡◌, eqb}
 use Rattle.std.proofs.Math.Path.{refl}
 use Rattle.std.proofs.Common.{arith, length-set}
 use Rattle.instructions.specs.Word.{a_of, set_a_of}
 use Rattle.model.specs.declared.ExprKind.{ExprKind}
-use Rattle.model.specs.declared.ExprKind.TheVariants.{Nil, True, False, K, KNum, Local, Global, Indexed, Jmp, Relocable, NonReloc, Call, VarArg}
 use Rattle.model.specs.declared.ExprContext.{ExprContext}
 use Rattle.model.specs.declared.State.{State}
-use Rattle.model.specs.Descriptor.{with_kind, with_jumps}
+use Rattle.model.specs.Descriptor.{with_kind}
 use Rattle.model.specs.Steps.{return}
 use Rattle.model.specs.Emission.{with_pc}
 use Rattle.model.specs.Jumps.{get_jump_control}
-use Rattle.model.specs.Conditions.{bit, pop, invertjump, is_not, jumponcond, jump_if_false, jump_if_true, goiftrue, goiffalse, emit_not, negate, code_not}
-use Rattle.bound.specs.Takes.{Resource, words, entries, text, used, per_word, per_constant, left, Spends, Takes, Any, at_most, spends_then, takes_then, nothing_then, then_nothing, spends_return, takes_return, takes_code_now, spends_if, room_same}
-use Rattle.bound.specs.Emission.{takes_change_word, takes_emit, takes_concat, takes_remove, takes_emit_jump, takes_patch_to_here}
-use Rattle.bound.specs.Discharge.{due, owes, value, spends_open, dv_then, takes_free_expr, takes_discharge2anyreg}
+use Rattle.model.specs.Conditions.{bit, pop, invertjump}
+use Rattle.bound.specs.Takes.{Resource, words, entries, text, used, per_word, per_constant, left, Spends, Takes, Any, at_most, nothing_then, spends_return, takes_return, takes_code_now, room_same}
+use Rattle.bound.specs.Emission.{takes_change_word}
+use Rattle.bound.specs.Discharge.{due, owes, value}
 
 popped : (R : Resource) (s : State) → used R (with_pc (s.pc - 1) s) ≤ used R s
 popped words s = omega arith
@@ -23,92 +22,22 @@ popped entries s = omega arith
 popped text s = omega arith
 
 module _ {R : Resource} {cap : ℕ} where
-  takes_pop : Takes R cap 0 pop
+  pub takes_pop : Takes R cap 0 pop
   unfolding pop
   takes_pop s m l = left tt (with_pc (s.pc - 1) s) _ tt (omega (arith, popped R s)) refl refl (room_same R cap m _ (length-set m.code (s.pc - 1) 0) (length-set m.lines (s.pc - 1) 0) refl refl refl l)
 
-  takes_invertjump : (e : ExprContext) → Takes R cap 0 (invertjump e)
+  pub takes_invertjump : (e : ExprContext) → Takes R cap 0 (invertjump e)
   unfolding invertjump
   takes_invertjump e = nothing_then takes_code_now (λ code. takes_change_word (get_jump_control code e.info) (λ w. set_a_of w (bit (eqb (a_of w) 0))))
 
-  takes_jumponcond : (e : ExprContext) (cond : Bool) → Takes R cap (value R e + 2 * per_word R) (jumponcond e cond)
-  unfolding jumponcond
-  takes_jumponcond e cond = nothing_then takes_code_now (λ code.
-      spends_if (is_not code e) (λ _. at_most (nothing_then takes_pop (λ _. takes_then (takes_emit _) (λ _. takes_emit_jump))) (omega arith))
-      (λ _. at_most (takes_then (takes_discharge2anyreg e) (λ e₁. nothing_then (takes_free_expr e₁) (λ _. takes_then (takes_emit _) (λ _. takes_emit_jump)))) (omega arith)))
-
   -- no word
-  takes_none : {A : Type 0} {c : ℕ} (a : A) → Takes R cap c (return a)
+  pub takes_none : {A : Type 0} {c : ℕ} (a : A) → Takes R cap c (return a)
   takes_none a = at_most (takes_return a) (omega arith)
 
-  takes_jump_if_false : (k : ExprKind) (e : ExprContext) → Takes R cap (value R e + 2 * per_word R) (jump_if_false k e)
-  unfolding jump_if_false
-  takes_jump_if_false Nil e = takes_jumponcond e false
-  takes_jump_if_false True e = takes_none 0
-  takes_jump_if_false False e = at_most takes_emit_jump (omega arith)
-  takes_jump_if_false K e = takes_none 0
-  takes_jump_if_false KNum e = takes_none 0
-  takes_jump_if_false Local e = takes_jumponcond e false
-  takes_jump_if_false Global e = takes_jumponcond e false
-  takes_jump_if_false Indexed e = takes_jumponcond e false
-  takes_jump_if_false Jmp e = at_most (nothing_then (takes_invertjump e) (λ _. takes_return _)) (omega arith)
-  takes_jump_if_false Relocable e = takes_jumponcond e false
-  takes_jump_if_false NonReloc e = takes_jumponcond e false
-  takes_jump_if_false Call e = takes_jumponcond e false
-  takes_jump_if_false VarArg e = takes_jumponcond e false
-
-  takes_jump_if_true : (k : ExprKind) (e : ExprContext) → Takes R cap (value R e + 2 * per_word R) (jump_if_true k e)
-  unfolding jump_if_true
-  takes_jump_if_true Nil e = takes_none 0
-  takes_jump_if_true True e = at_most takes_emit_jump (omega arith)
-  takes_jump_if_true False e = takes_none 0
-  takes_jump_if_true K e = takes_jumponcond e true
-  takes_jump_if_true KNum e = takes_jumponcond e true
-  takes_jump_if_true Local e = takes_jumponcond e true
-  takes_jump_if_true Global e = takes_jumponcond e true
-  takes_jump_if_true Indexed e = takes_jumponcond e true
-  takes_jump_if_true Jmp e = takes_none _
-  takes_jump_if_true Relocable e = takes_jumponcond e true
-  takes_jump_if_true NonReloc e = takes_jumponcond e true
-  takes_jump_if_true Call e = takes_jumponcond e true
-  takes_jump_if_true VarArg e = takes_jumponcond e true
-
-  pub takes_goiftrue : (e : ExprContext) → Takes R cap (value R e + 2 * per_word R) (goiftrue e)
-  unfolding goiftrue
-  takes_goiftrue e = dv_then e (2 * per_word R) (λ e₁ h. then_nothing (takes_jump_if_false e₁.kind e₁) (λ list. nothing_then (takes_concat e₁.f list) (λ f. nothing_then (takes_patch_to_here e₁.t) (λ _. takes_return _))))
-
-  pub takes_goiffalse : (e : ExprContext) → Takes R cap (value R e + 2 * per_word R) (goiffalse e)
-  unfolding goiffalse
-  takes_goiffalse e = dv_then e (2 * per_word R) (λ e₁ h. then_nothing (takes_jump_if_true e₁.kind e₁) (λ list. nothing_then (takes_concat e₁.t list) (λ t. nothing_then (takes_patch_to_here e₁.f) (λ _. takes_return _))))
-
-  spends_emit_not : (e : ExprContext) → Spends R cap (value R e + per_word R) (emit_not e) (owes R) Any
-  unfolding emit_not
-  spends_emit_not e = at_most (takes_then (takes_discharge2anyreg e) (λ e₁. nothing_then (takes_free_expr e₁) (λ _. takes_then (takes_emit _) (λ pc. spends_open {c = 0} e₁)))) (omega arith)
-
   -- a descriptor without a word
-  spends_kept : {c : ℕ} (e : ExprContext) → owes R e ≤ c → Spends R cap c (return e) (owes R) Any
+  pub spends_kept : {c : ℕ} (e : ExprContext) → owes R e ≤ c → Spends R cap c (return e) (owes R) Any
   spends_kept e h = at_most (spends_return e tt) h
 
   -- a truth value
-  spends_truth : (k : ExprKind) (e : ExprContext) → due R k ≡ per_constant R → Spends R cap (value R e + per_word R + per_constant R) (return (with_kind k e.info e)) (owes R) Any
+  pub spends_truth : (k : ExprKind) (e : ExprContext) → due R k ≡ per_constant R → Spends R cap (value R e + per_word R + per_constant R) (return (with_kind k e.info e)) (owes R) Any
   spends_truth k e h = spends_kept _ (omega (arith, h))
-
-  spends_negate : (k : ExprKind) (e : ExprContext) → Spends R cap (value R e + per_word R + per_constant R) (negate k e) (owes R) Any
-  unfolding negate
-  spends_negate Nil e = spends_truth True e refl
-  spends_negate True e = spends_truth False e refl
-  spends_negate False e = spends_truth True e refl
-  spends_negate K e = spends_truth False e refl
-  spends_negate KNum e = spends_truth False e refl
-  spends_negate Local e = spends_kept e (omega arith)
-  spends_negate Global e = spends_kept e (omega arith)
-  spends_negate Indexed e = spends_kept e (omega arith)
-  spends_negate Jmp e = nothing_then (takes_invertjump e) (λ _. spends_kept e (omega arith))
-  spends_negate Relocable e = at_most (spends_emit_not e) (omega arith)
-  spends_negate NonReloc e = at_most (spends_emit_not e) (omega arith)
-  spends_negate Call e = spends_kept e (omega arith)
-  spends_negate VarArg e = spends_kept e (omega arith)
-
-  pub spends_code_not : (e : ExprContext) → Spends R cap (value R e + per_word R + per_constant R) (code_not e) (owes R) Any
-  unfolding code_not
-  spends_code_not e = at_most (dv_then e (per_word R + per_constant R) (λ e₁ h. at_most (spends_then 0 (spends_negate e₁.kind e₁) (λ e₂ _. at_most (nothing_then (takes_remove e₂.t) (λ _. nothing_then (takes_remove e₂.f) (λ _. spends_return (with_jumps e₂.f e₂.t e₂) tt))) (omega arith))) (omega arith))) (omega arith)

@@ -1,20 +1,20 @@
 -- What discharging takes. A descriptor's value costs a word, unless one stands for it already, and the constant that it may become; its jumps cost three words, for the loads of both truth values. `discharge_vars` takes no more than it lightens;
 -- what `exp2reg` and the like leave is a register without jumps, so that bringing it once more is cheap.
-use Rattle.std.specs.Prelude.{ℕ, ◌+◌, ◌*◌, ◌≤◌, Bool, true, false, not, ◌||◌, ◌≡◌, [], length, eqb, leb}
+-- What rests on something that a must-fail edit breaks stands in proofs/Discharge.antt.
+use Rattle.std.specs.Prelude.{ℕ, ◌+◌, ◌*◌, ◌≤◌, Bool, true, false, ◌||◌, ◌≡◌, length, eqb}
 use Rattle.std.proofs.Math.Path.{refl, ap}
 use Rattle.std.proofs.Common.{sym, ◌∙◌}
 use native.Mathlib.Omega.{arith}
-use Rattle.instructions.specs.Word.{set_a_of, set_b_of, set_c_of}
-use Rattle.constants.specs.declared.Val.TheVariants as val
+use Rattle.instructions.specs.Word.{set_b_of, set_c_of}
 use Rattle.model.specs.declared.ExprKind.{ExprKind}
 use Rattle.model.specs.declared.ExprKind.TheVariants.{Nil, True, False, K, KNum, Local, Global, Indexed, Jmp, Relocable, NonReloc, Call, VarArg}
 use Rattle.model.specs.declared.ExprContext.{ExprContext}
 use Rattle.model.specs.Descriptor.{with_kind, with_jumps, has_jumps, tag_of, is_kind}
 use Rattle.model.specs.Steps.{Step, and_then, ◌>>=◌, ◌>>◌, return, when}
-use Rattle.model.specs.Jumps.{jump_list, need_value}
-use Rattle.model.specs.Discharge.{discharge_kind, discharge_vars, free_expr, number_constant, move, load_kind, discharge2reg, discharge2anyreg, land, load_both, settle, join_jump, exp2reg, exp2nextreg, exp2anyreg}
-use Rattle.bound.specs.Takes.{Resource, per_word, per_constant, left, Spends, Gives, Takes, Any, at_most, spends_less, takes, spends_then, gives_then, takes_then, nothing_then, then_nothing, spends_return, gives_return, takes_return, takes_skip, takes_get, takes_code_now, spends_if, takes_when}
-use Rattle.bound.specs.Emission.{takes_add_constant, takes_change_word, takes_emit, takes_concat, takes_patch_list, takes_emit_jump, takes_patch_to_here, takes_get_label, takes_code_label, takes_emit_nil, takes_alloc_reg, takes_free_reg}
+use Rattle.model.specs.Jumps.{need_value}
+use Rattle.model.specs.Discharge.{discharge_kind, discharge_vars, free_expr, move, land, load_both, settle, join_jump, exp2anyreg}
+use Rattle.bound.specs.Takes.{Resource, per_word, per_constant, left, Spends, Gives, Takes, Any, at_most, spends_less, spends_then, takes_then, nothing_then, then_nothing, spends_return, gives_return, takes_return, takes_skip, takes_code_now, spends_if, takes_when}
+use Rattle.bound.specs.Emission.{takes_change_word, takes_emit, takes_patch_list, takes_emit_jump, takes_patch_to_here, takes_get_label, takes_code_label, takes_free_reg}
 
 -- ---- prices
 
@@ -51,12 +51,12 @@ due R Call = 0
 due R VarArg = 0
 
 -- a jump over two loads, and the loads
-abbrev three : Resource → Bool → ℕ
+abbrev pub three : Resource → Bool → ℕ
 three R true = 3 * per_word R
 three R false = 0
 
 -- has jumps, or is a comparison, which is a jump
-abbrev pending : ExprContext → Bool
+abbrev pub pending : ExprContext → Bool
 pending e = has_jumps e || is_kind Jmp e
 
 -- what its jumps cost
@@ -97,16 +97,16 @@ load_most R NonReloc = omega arith
 load_most R Call = omega arith
 load_most R VarArg = omega arith
 
-three_or : (R : Resource) (a b : Bool) → three R a ≤ three R (a || b)
+pub three_or : (R : Resource) (a b : Bool) → three R a ≤ three R (a || b)
 three_or R true b = omega arith
 three_or R false true = omega arith
 three_or R false false = omega arith
 
-three_true : (R : Resource) (a b : Bool) → b ≡ true → 3 * per_word R ≤ three R (a || b)
+pub three_true : (R : Resource) (a b : Bool) → b ≡ true → 3 * per_word R ≤ three R (a || b)
 three_true R true b h = omega arith
 three_true R false b h = rw h (omega arith)
 
-three_most : (R : Resource) (b : Bool) → three R b ≤ 3 * per_word R
+pub three_most : (R : Resource) (b : Bool) → three R b ≤ 3 * per_word R
 three_most R true = omega arith
 three_most R false = omega arith
 
@@ -120,7 +120,7 @@ light R e h j = let z : jumps_cost R e ≡ 0 = rw (h, j) refl in omega (arith, l
 pub bare_light : (R : Resource) (e : ExprContext) → Bare e → (owes R e ≤ 0) × Light R e
 bare_light R e b = let z : owes R e ≡ 0 = ap (due R) b.kind in (omega (arith, z), light R e b.jumps (rw b.kind refl))
 
-nonreloc : (k : ExprKind) → eqb (tag_of k) 10 ≡ true → k ≡ NonReloc
+pub nonreloc : (k : ExprKind) → eqb (tag_of k) 10 ≡ true → k ≡ NonReloc
 nonreloc Nil h = absurd (let z : ◌≡◌ {A = ℕ} 0 1 = cc in omega arith)
 nonreloc True h = absurd (let z : ◌≡◌ {A = ℕ} 0 1 = cc in omega arith)
 nonreloc False h = absurd (let z : ◌≡◌ {A = ℕ} 0 1 = cc in omega arith)
@@ -191,43 +191,16 @@ module _ {R : Resource} {cap : ℕ} where
   unfolding free_expr
   takes_free_expr e = takes_when (is_kind NonReloc e) (takes_free_reg e.info)
 
-  takes_number_constant : (e : ExprContext) → Takes R cap (per_constant R) (number_constant e)
-  takes_number_constant e = takes_add_constant [] (val.Num e.nval e.bits)
-
-  takes_move : (to from : ℕ) → Takes R cap (per_word R) (move to from)
+  pub takes_move : (to from : ℕ) → Takes R cap (per_word R) (move to from)
   takes_move to from = then_nothing (takes_emit _) (λ _. takes_skip)
 
   -- a value that was loaded
-  gives_loaded : (reg : ℕ) (e : ExprContext) → is_kind Jmp e ≡ false → Gives R cap 0 (return (with_kind NonReloc reg e)) (Same e)
+  pub gives_loaded : (reg : ℕ) (e : ExprContext) → is_kind Jmp e ≡ false → Gives R cap 0 (return (with_kind NonReloc reg e)) (Same e)
   gives_loaded reg e h = gives_return _ (same_kind NonReloc reg e refl h)
 
   -- a kind that isn't loaded
-  gives_kept : {c : ℕ} (e : ExprContext) → Gives R cap c (return e) (Same e)
+  pub gives_kept : {c : ℕ} (e : ExprContext) → Gives R cap c (return e) (Same e)
   gives_kept e = at_most (gives_return e (same e)) (omega arith)
-
-  gives_load : (k : ExprKind) (e : ExprContext) (reg : ℕ) → e.kind ≡ k → Gives R cap (load R k + due R k) (load_kind k e reg) (Same e)
-  unfolding load_kind
-  gives_load Nil e reg p = at_most (then_nothing (takes_emit_nil reg) (λ _. gives_loaded reg e (rw p refl))) (omega arith)
-  gives_load True e reg p = at_most (then_nothing (takes_emit _) (λ _. gives_loaded reg e (rw p refl))) (omega arith)
-  gives_load False e reg p = at_most (then_nothing (takes_emit _) (λ _. gives_loaded reg e (rw p refl))) (omega arith)
-  gives_load K e reg p = at_most (then_nothing (takes_emit _) (λ _. gives_loaded reg e (rw p refl))) (omega arith)
-  gives_load KNum e reg p = at_most (takes_then (takes_number_constant e) (λ n. then_nothing (takes_emit _) (λ _. gives_loaded reg e (rw p refl)))) (omega arith)
-  gives_load Local e reg p = gives_kept e
-  gives_load Global e reg p = gives_kept e
-  gives_load Indexed e reg p = gives_kept e
-  gives_load Jmp e reg p = gives_kept e
-  gives_load Relocable e reg p = at_most (nothing_then (takes_change_word e.info (λ w. set_a_of w reg)) (λ _. gives_loaded reg e (rw p refl))) (omega arith)
-  gives_load NonReloc e reg p = at_most (then_nothing (takes_when (not (eqb reg e.info)) (takes_move reg e.info)) (λ _. gives_loaded reg e (rw p refl))) (omega arith)
-  gives_load Call e reg p = gives_kept e
-  gives_load VarArg e reg p = gives_kept e
-
-  gives_discharge2reg : (e : ExprContext) (reg : ℕ) → Gives R cap (value R e) (discharge2reg e reg) (Same e)
-  unfolding discharge2reg
-  gives_discharge2reg e reg = at_most (dv_then e 0 (λ e₁ h. at_most (spends_less (gives_load e₁.kind e₁ reg refl) (λ e₂ g. (omega arith, record { has = g.has ∙ h.has; pending = g.pending ∙ h.pending }))) (omega arith))) (omega arith)
-
-  pub takes_discharge2anyreg : (e : ExprContext) → Takes R cap (value R e) (discharge2anyreg e)
-  unfolding discharge2anyreg
-  takes_discharge2anyreg e = spends_if (is_kind NonReloc e) (λ _. at_most (takes_return e) (omega arith)) (λ _. nothing_then takes_alloc_reg (λ reg. takes (gives_discharge2reg e reg)))
 
   -- ---- the jumps
 
@@ -244,40 +217,15 @@ module _ {R : Resource} {cap : ℕ} where
       nothing_then (takes_patch_to_here over) (λ _.
       nothing_then takes_get_label (λ final. takes_land e reg final on_false on_true)))))) (omega arith)
 
-  takes_settle : (e : ExprContext) (reg : ℕ) → Takes R cap (3 * per_word R) (settle e reg)
+  pub takes_settle : (e : ExprContext) (reg : ℕ) → Takes R cap (3 * per_word R) (settle e reg)
   unfolding settle
   takes_settle e reg = nothing_then takes_code_now (λ code.
       spends_if (need_value (length code) code e.t || need_value (length code) code e.f) (λ _. takes_load_both e reg) (λ _. at_most (nothing_then takes_get_label (λ final. takes_land e reg final final final)) (omega arith)))
 
   -- only where there are jumps
-  takes_settled : (b : Bool) {x : Step (Unit {0})} → Takes R cap (3 * per_word R) x → Takes R cap (three R b) (when b x)
+  pub takes_settled : (b : Bool) {x : Step (Unit {0})} → Takes R cap (3 * per_word R) x → Takes R cap (three R b) (when b x)
   takes_settled true g = g
   takes_settled false g = takes_skip
-
-  gives_join : (e : ExprContext) → Gives R cap 0 (join_jump e) (λ e₂. three R (has_jumps e₂) ≤ jumps_cost R e)
-  unfolding join_jump
-  gives_join e = spends_if (is_kind Jmp e)
-      (λ h. nothing_then (takes_concat e.t (jump_list e.info)) (λ t. gives_return _ (omega (arith, three_most R (has_jumps (with_jumps t e.f e)), three_true R (has_jumps e) (is_kind Jmp e) h))))
-      (λ _. gives_return e (three_or R (has_jumps e) (is_kind Jmp e)))
-
-  pub gives_settled : (e e₁ : ExprContext) (reg : ℕ) → Same e e₁ → Gives R cap (jumps_cost R e) (settles e₁ reg) Bare
-  gives_settled e e₁ reg h = at_most (gives_then (gives_join e₁) (λ e₂ j.
-      at_most {d = jumps_cost R e} (then_nothing (takes_settled (has_jumps e₂) (takes_settle e₂ reg)) (λ _. gives_return _ (record { kind = refl; jumps = refl }))) (omega (arith, j, jumps_cost_same R h)))) (omega arith)
-
-  gives_exp2reg : (e : ExprContext) (reg : ℕ) → Gives R cap (brings R e) (exp2reg e reg) Bare
-  unfolding exp2reg
-  gives_exp2reg e reg = gives_then (gives_discharge2reg e reg) (λ e₁ h. gives_settled e e₁ reg h)
-
-  pub gives_exp2nextreg : (e : ExprContext) → Gives R cap (brings R e) (exp2nextreg e) Bare
-  unfolding exp2nextreg
-  gives_exp2nextreg e = dv_then e (jumps_cost R e) (λ e₁ h. at_most (nothing_then (takes_free_expr e₁) (λ _. nothing_then takes_alloc_reg (λ reg. gives_exp2reg e₁ reg))) (omega (arith, jumps_cost_same R h)))
-
-  pub gives_exp2anyreg : (e : ExprContext) → Gives R cap (brings R e) (exp2anyreg e) Bare
-  unfolding exp2anyreg
-  gives_exp2anyreg e = dv_then e (jumps_cost R e) (λ e₁ h. at_most (nothing_then takes_get (λ s.
-      spends_if {c = brings R e₁} (is_kind NonReloc e₁)
-      (λ n. spends_if (has_jumps e₁) (λ _. spends_if (leb s.active e₁.info) (λ _. gives_exp2reg e₁ e₁.info) (λ _. gives_exp2nextreg e₁)) (λ j. at_most (gives_return e₁ (record { kind = nonreloc e₁.kind n; jumps = j })) (omega arith)))
-      (λ _. gives_exp2nextreg e₁))) (omega (arith, jumps_cost_same R h)))
 
   -- once more takes nothing
   pub gives_again : (e : ExprContext) → Bare e → Gives R cap 0 (exp2anyreg e) Bare

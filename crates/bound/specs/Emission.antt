@@ -1,5 +1,6 @@
 -- What emission takes: a price of a word at most for each; constants what they cost, and a constant that is listed nothing; registers and jump lists nothing.
-use Rattle.std.specs.Prelude.{ℕ, ◌+◌, ◌-◌, ◌≤◌, max, Bool, ◌&&◌, ◌≡◌, List, drop, leb, ltb}
+-- What rests on something that a must-fail edit breaks stands in proofs/Emission.antt.
+use Rattle.std.specs.Prelude.{ℕ, ◌+◌, ◌-◌, ◌≤◌, max, Bool, ◌&&◌, ◌≡◌, List, leb, ltb}
 use Rattle.std.proofs.Math.Bool.{true, false}
 use Rattle.std.proofs.Math.Path.{refl}
 use Rattle.std.proofs.Common.{sym, ◌∙◌, arith, length-set, leb-false}
@@ -9,22 +10,17 @@ use Rattle.std.proofs.lemmas.Bool.{lt-leb}
 use Rattle.refusals.specs.declared.Refusal.TheVariants.{Registers, Constants, Pool, Words}
 use Rattle.instructions.specs.Limits.{no_reg, max_words, max_stack, bit_rk, max_constants}
 use Rattle.instructions.specs.Word.{b_of, set_b_of}
-use Rattle.constants.specs.Entry.{part, holds}
-use Rattle.constants.specs.Table.{added as added_to, append, stored_text, out, find, full}
-use Rattle.constants.specs.Laws.{added_there, added_full, added_new}
+use Rattle.constants.specs.Table.{added as added_to, stored_text, out, full}
 use Rattle.constants.specs.Distinct.{Kept, kept_added}
 use Rattle.constants.specs.declared.Val.{Val}
 use Rattle.constants.specs.declared.Val.TheVariants as val
-use Rattle.constants.specs.declared.Found.{Found}
-use Rattle.constants.specs.declared.Found.TheVariants.{At, Nothing}
 use Rattle.constants.specs.declared.Added.{Added}
 use Rattle.constants.specs.declared.Added.TheVariants as added
 use Rattle.model.specs.declared.State.{State}
 use Rattle.model.specs.Steps.{Buffers, done, refused, Step, and_then, change, change_words}
 use Rattle.model.specs.Jumps.{word, remove_values, patch_list_aux}
-use Rattle.model.specs.Emission.{with_pc, with_table, with_free, with_frame, with_jpc, with_label, discharge_jpc, no_room, store, push, emit_at, emit, concat, emit_jump, patch_to_here, get_label, code_label, adjoins, load_nil, emit_nil, check_stack, reserve_regs, alloc_reg, free_reg, stored_in, add_constant}
+use Rattle.model.specs.Emission.{with_pc, with_table, with_free, with_frame, with_jpc, with_label, discharge_jpc, no_room, store, push, emit_at, emit, concat, emit_jump, patch_to_here, get_label, code_label, adjoins, load_nil, emit_nil, check_stack, reserve_regs, alloc_reg, free_reg, stored_in}
 use Rattle.model.specs.Discharge.{change_word}
-use Rattle.simulation.specs.Texts.{take_at_most}
 use Rattle.padding.specs.Lengths.{length_linked, length_remove, length_patch_list}
 use Rattle.bound.specs.Takes.{Resource, words, entries, text, used, per_word, per_constant, per_text, want, Room, Leaves, left, none, Any, Takes, other, at_most, takes_then, nothing_then, then_nothing, takes_return, takes_skip, gives_refuse, takes_get, takes_code_now, used_same, takes_change, room_same, takes_change_words, spends_if}
 
@@ -48,17 +44,17 @@ Fair R cap s p (added.At i t) = used R (with_table t s) ≤ used R s + p
 Fair R cap s p (added.Refused x) = used R s + p ≤ cap → x ≡ want R → ⊥
 
 module _ (cap : ℕ) (s : State) (m : Buffers) where
-  fair_there : (R : Resource) (p i : ℕ) → Fair R cap s p (added.At i s.table)
+  pub fair_there : (R : Resource) (p i : ℕ) → Fair R cap s p (added.At i s.table)
   fair_there words p i = omega arith
   fair_there entries p i = omega arith
   fair_there text p i = omega arith
 
-  fair_plain : (R : Resource) (i : ℕ) → Fair R cap s (per_constant R) (added.At i (record { count = s.table.count + 1; used = s.table.used + 0 }))
+  pub fair_plain : (R : Resource) (i : ℕ) → Fair R cap s (per_constant R) (added.At i (record { count = s.table.count + 1; used = s.table.used + 0 }))
   fair_plain words i = omega arith
   fair_plain entries i = omega arith
   fair_plain text i = omega arith
 
-  fair_full : (R : Resource) (v : Val) → Room R cap m → full s.table.count m.kinds m.values ≡ true → Fair R cap s (price R v) (added.Refused Constants)
+  pub fair_full : (R : Resource) (v : Val) → Room R cap m → full s.table.count m.kinds m.values ≡ true → Fair R cap s (price R v) (added.Refused Constants)
   fair_full words v r e = λ h. other Constants Words (λ y. omega (arith, y))
   fair_full text v r e = λ h. other Constants Pool (λ y. omega (arith, y))
   fair_full entries v r e = λ h g.
@@ -66,7 +62,7 @@ module _ (cap : ℕ) (s : State) (m : Buffers) where
       let y : ◌≡◌ {A = Bool} true false = sym e ∙ free in
       let z : ◌≡◌ {A = ℕ} 0 1 = cc in omega arith
 
-  fair_text : (R : Resource) (b : Bool) (bytes : List ℕ) (n : ℕ) → Room R cap m → length bytes ≤ n → leb (s.table.used + length bytes) (length m.pool) ≡ b → Fair R cap s (per_text R n) (stored_text b s.table bytes m.kinds m.values m.pool).answer
+  pub fair_text : (R : Resource) (b : Bool) (bytes : List ℕ) (n : ℕ) → Room R cap m → length bytes ≤ n → leb (s.table.used + length bytes) (length m.pool) ≡ b → Fair R cap s (per_text R n) (stored_text b s.table bytes m.kinds m.values m.pool).answer
   fair_text words true bytes n r h e = omega arith
   fair_text entries true bytes n r h e = omega arith
   fair_text text true bytes n r h e = omega (arith, h)
@@ -75,26 +71,7 @@ module _ (cap : ℕ) (s : State) (m : Buffers) where
   fair_text text false bytes n r h e = λ k g. omega (arith, leb-false (s.table.used + length bytes) (length m.pool) e, r, h, k)
 
   module _ (R : Resource) (l : Room R cap m) where
-    fair_append : (chunk : List ℕ) (v : Val) → Fair R cap s (price R v) (append chunk s.table v m.kinds m.values m.pool).answer
-    unfolding append
-    fair_append chunk val.Nil = fair_plain R s.table.count
-    fair_append chunk (val.Bool false) = fair_plain R s.table.count
-    fair_append chunk (val.Bool true) = fair_plain R s.table.count
-    fair_append chunk (val.Num x b) = fair_plain R s.table.count
-    fair_append chunk (val.Str i n) = fair_text R (leb (s.table.used + length (part chunk i n)) (length m.pool)) (part chunk i n) n l (take_at_most n (drop i chunk)) refl
-
-    pub fair_added : (chunk : List ℕ) (v : Val) → Fair R cap s (price R v) (added_to chunk s.table v m.kinds m.values m.pool).answer
-    fair_added chunk v = search (find (holds m.pool chunk v) s.table.count m.kinds m.values) refl
-      where
-        room : find (holds m.pool chunk v) s.table.count m.kinds m.values ≡ Nothing → (b : Bool) → full s.table.count m.kinds m.values ≡ b → Fair R cap s (price R v) (added_to chunk s.table v m.kinds m.values m.pool).answer
-        room e true f = rw (added_full chunk s.table v m.kinds m.values m.pool e refl f refl) (fair_full R v l f)
-        room e false f = rw (added_new chunk s.table v m.kinds m.values m.pool e refl f refl refl) (fair_append chunk v)
-
-        search : (f : Found) → find (holds m.pool chunk v) s.table.count m.kinds m.values ≡ f → Fair R cap s (price R v) (added_to chunk s.table v m.kinds m.values m.pool).answer
-        search (At i) e = rw (added_there chunk s.table v m.kinds m.values m.pool e refl) (fair_there R (price R v) i)
-        search Nothing e = room e (full s.table.count m.kinds m.values) refl
-
-    kept_in : (chunk : List ℕ) (v : Val) (p : ℕ) (r : Added) (ks vs pool : List ℕ) → added_to chunk s.table v m.kinds m.values m.pool ≡ out r ks vs pool → Fair R cap s p r → Leaves R cap p (used R s) s.at s.line (λ i. 0) Any (stored_in s m (out r ks vs pool))
+    pub kept_in : (chunk : List ℕ) (v : Val) (p : ℕ) (r : Added) (ks vs pool : List ℕ) → added_to chunk s.table v m.kinds m.values m.pool ≡ out r ks vs pool → Fair R cap s p r → Leaves R cap p (used R s) s.at s.line (λ i. 0) Any (stored_in s m (out r ks vs pool))
     kept_in chunk v p (added.Refused x) ks vs pool e h = none x _ h
     kept_in chunk v p (added.At i t) ks vs pool e h =
         let k : Kept m.kinds m.values m.pool t ks vs pool = kept_added chunk s.table v m.kinds m.values m.pool e in
@@ -117,10 +94,6 @@ push_leaves R cap w line s m l false e = left s.pc (with_pc (s.pc + 1) s) (store
     go text = omega arith
 
 module _ {R : Resource} {cap : ℕ} where
-  pub takes_add_constant : (chunk : List ℕ) (v : Val) → Takes R cap (price R v) (add_constant chunk v)
-  unfolding add_constant
-  takes_add_constant chunk v s m l = kept_in cap s m R l chunk v (price R v) _ _ _ _ refl (fair_added cap s m R l chunk v)
-
   takes_push : (w line : ℕ) → Takes R cap (per_word R) (push w line)
   unfolding push
   takes_push w line s m l = push_leaves R cap w line s m l (no_room s m) refl

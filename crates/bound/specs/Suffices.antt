@@ -1,20 +1,17 @@
 -- How much to lend: with 8n + 1 words and lines, n constants, a pool as long as the chunk and a scratch of n, for n nodes, up to 16,383 of them, a chunk that has the form is lowered or needs more than 250 registers; and n is at most half the chunk's length, which alone tells how much to lend up to 32,767 bytes.
 -- From `bounded`, and from `padded`, by the stage of the refusal.
+-- What rests on something that a must-fail edit breaks stands in proofs/Suffices.antt.
 use Rattle.std.specs.Prelude.{ℕ, ◌+◌, ◌*◌, ◌/◌, ◌≤◌, ◌≡◌, refl, List, length}
-use Rattle.std.proofs.Common.{ap, ◌∙◌, subst, arith}
+use Rattle.std.proofs.Common.{ap, ◌∙◌, arith}
 use Rattle.std.proofs.lemmas.List.{length-map}
 use Rattle.refusals.specs.Stage.{stage_of, steps}
 use Rattle.refusals.specs.declared.Refusal.{Refusal}
 use Rattle.refusals.specs.declared.Refusal.TheVariants as refusal
 use Rattle.chunk.specs.Ast.{Chunk, spans_of, places_of}
 use Rattle.chunk.specs.Form.{formed, form_of}
-use Rattle.model.specs.declared.Lowered.TheVariants as answer
-use Rattle.model.specs.Claims.{Due, by_form, by_scratch, by_lowering, Padded, Bytes}
-use Rattle.model.specs.Lowering.{Sizes, lowered}
-use Rattle.faithful.specs.Accepted.{accepted}
-use Rattle.padding.specs.Padded.{padded}
-use Rattle.bound.specs.Texts.{in_chunk}
-use Rattle.bound.specs.Bounded.{nodes, Enough, Bounded, bounded}
+use Rattle.model.specs.Claims.{Due, by_form, by_scratch, by_lowering}
+use Rattle.model.specs.Lowering.{Sizes}
+use Rattle.bound.specs.Bounded.{nodes, Enough}
 
 pub record Suffices (z : Sizes) (chunk : List ℕ) (c : Chunk) : Type 0 where
   pub few : nodes c ≤ 16383
@@ -27,13 +24,13 @@ pub record Suffices (z : Sizes) (chunk : List ℕ) (c : Chunk) : Type 0 where
 
 module _ (z : Sizes) (chunk : List ℕ) (c : Chunk) (form : form_of chunk ≡ formed c) (h : Suffices z chunk c) where
   -- no refusal of the form, nor of the scratch
-  late : (x : Refusal) → Due z chunk x → stage_of x ≡ steps
+  pub late : (x : Refusal) → Due z chunk x → stage_of x ≡ steps
   late x (by_form e l) = absurd (let y : ◌≡◌ {A = ℕ} 0 1 = cc in omega arith)
   late x (by_scratch c' e l q) = let n : length (places_of (spans_of c'.formulas)) ≡ nodes c = length-map (spans_of c'.formulas) _ ∙ ap nodes (let y : c' ≡ c = cc in y) in absurd (omega (arith, l, n, h.scratch))
   late x (by_lowering c' e l n) = n
 
   -- 10 is what is left
-  only : (x : Refusal) → stage_of x ≡ steps → Enough z chunk c x → x ≡ refusal.Registers
+  pub only : (x : Refusal) → stage_of x ≡ steps → Enough z chunk c x → x ≡ refusal.Registers
   only refusal.Registers l e = refl
   only refusal.Constants l e = absurd (e.constants h.kinds h.values (omega (arith, h.few)) refl)
   only refusal.Pool l e = absurd (e.text h.pool refl)
@@ -61,18 +58,6 @@ module _ (z : Sizes) (chunk : List ℕ) (c : Chunk) (form : form_of chunk ≡ fo
   only refusal.Ratio l e = cc
   only refusal.Rule l e = cc
 
-pub suffices : (z : Sizes) (chunk : List ℕ) → Bytes chunk → (c : Chunk) → form_of chunk ≡ formed c → Suffices z chunk c → (x : Refusal) → (lowered z chunk).answer ≡ answer.Refused x → x ≡ refusal.Registers
-suffices z chunk bytes c form h x e =
-    let d : Padded z chunk (answer.Refused x) (lowered z chunk).buffers (lowered z chunk).scratch = subst (λ r. Padded z chunk r (lowered z chunk).buffers (lowered z chunk).scratch) e (padded z chunk bytes) in
-    let b : Bounded z chunk (answer.Refused x) = subst (Bounded z chunk) e (bounded z chunk) in
-    only z chunk c form h x (late z chunk c form h x d.1.1) (b c form)
-
--- ---- by the chunk's length alone
-
--- a node has two bytes at least
-pub two_bytes : (chunk : List ℕ) (c : Chunk) → form_of chunk ≡ formed c → 2 * nodes c ≤ length chunk
-two_bytes chunk c form = omega (arith, in_chunk chunk c (accepted chunk c form))
-
 -- what to lend by a chunk's length alone, for one of n bytes, up to 32,767
 pub record Lends (z : Sizes) (n : ℕ) : Type 0 where
   pub short : n ≤ 32767
@@ -82,16 +67,3 @@ pub record Lends (z : Sizes) (n : ℕ) : Type 0 where
   pub values : n / 2 ≤ z.values
   pub pool : n ≤ z.pool
   pub scratch : n / 2 ≤ z.scratch
-
-pub by_length : (z : Sizes) (chunk : List ℕ) (c : Chunk) → form_of chunk ≡ formed c → Lends z (length chunk) → Suffices z chunk c
-by_length z chunk c form h =
-    let t : 2 * nodes c ≤ length chunk = two_bytes chunk c form in
-    record {
-      few = omega (arith, t, h.short);
-      code = omega (arith, t, h.code);
-      lines = omega (arith, t, h.lines);
-      kinds = omega (arith, t, h.kinds);
-      values = omega (arith, t, h.values);
-      pool = h.pool;
-      scratch = omega (arith, t, h.scratch);
-    }

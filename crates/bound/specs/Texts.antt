@@ -1,8 +1,9 @@
 -- Each node has two bytes at least, and behind them its text; they lie in the chunk one behind the other, so together they are no more than the bytes that were read. By the cases of reading a node, and by induction as it is read.
-use Prim.Native.Nat.{ℕ, zero, suc, ◌+◌, ◌-◌, ◌*◌, ◌/◌, ◌%◌, ◌≤◌}
+-- What rests on something that a must-fail edit breaks stands in proofs/Texts.antt.
+use Prim.Native.Nat.{ℕ, zero, suc, ◌+◌, ◌*◌, ◌/◌, ◌%◌, ◌≤◌}
 use Rattle.std.specs.Prelude.{Bool, refl, List, length, eqb}
 use Rattle.std.proofs.Math.Bool.{true, false}
-use Rattle.std.proofs.Math.Path.{◌≡◌, ap, subst}
+use Rattle.std.proofs.Math.Path.{◌≡◌, ap}
 use native.Mathlib.Omega.{arith}
 use Rattle.std.proofs.Common.{length-append}
 use Rattle.cursor.specs.Fields.{le2, has_bytes, byte_at, line_at, bits_at, text_at, end_of}
@@ -19,17 +20,15 @@ use Rattle.ast.specs.declared.Two.{Two}
 use Rattle.ast.specs.declared.Many.{Many}
 use Rattle.ast.specs.declared.Head.{Head}
 use Rattle.ast.specs.declared.Head.TheVariants as head
-use Rattle.ast.specs.declared.Node.{Node}
-use Rattle.nodes.specs.Nodes.{fields_at, front_at, with_front, node_at}
+use Rattle.nodes.specs.Nodes.{fields_at, front_at}
 use Rattle.nodes.specs.Reads.{on_byte, on_line, on_bits, on_text, on_kind, on_bin, on_un, on_require, on_test}
 use Rattle.nodes.specs.declared.node.Front.{Front}
 use Rattle.nodes.specs.declared.node.Front.TheVariants as front
 use Rattle.nodes.specs.declared.node.NodeRead.{NodeRead}
 use Rattle.nodes.specs.declared.node.NodeRead.TheVariants as read
-use Rattle.chunk.specs.Ast.{Span, Expr, leaf as leaf_node, one as one_node, two as two_node, many as many_node, Exprs, none as no_more, more, spans, spans_of, Chunk}
-use Rattle.chunk.specs.Form.{Parsed, parsed, exprs_at, rest, expr_at, max_nesting}
-use Rattle.faithful.specs.Accepted.{Accepted}
-use Rattle.simulation.specs.Parsing.{invert, same_parsed, node_is}
+use Rattle.chunk.specs.Ast.{Span, Expr, leaf as leaf_node, one as one_node, two as two_node, many as many_node, Exprs, none as no_more, more, spans, spans_of}
+use Rattle.chunk.specs.Form.{Parsed, parsed, exprs_at, rest}
+use Rattle.simulation.specs.Parsing.{invert, same_parsed}
 use Rattle.bound.specs.Takes.{text}
 use Rattle.bound.specs.Expressions.{own_leaf, own_one, own_many, cost, costs}
 
@@ -65,14 +64,14 @@ unfolding costs spans_of
 bytes_more a es = simp length-append (omega arith)
 
 -- the bytes of a node's text
-abbrev own : Head → ℕ
+abbrev pub own : Head → ℕ
 own (head.Leaf l) = own_leaf text l
 own (head.One o) = own_one text o
 own (head.Two t) = 0
 own (head.Many k n) = own_many text k
 
 -- a node that is read from a place on ends behind its kind, its map and its text
-abbrev Behind : ℕ → NodeRead → Type 0
+abbrev pub Behind : ℕ → NodeRead → Type 0
 Behind at (read.Node n) = at + (2 + own n.head) ≤ n.next
 Behind at (read.Refused x) = Unit {0}
 
@@ -81,7 +80,7 @@ abbrev BehindFields : ℕ → NodeRead → Type 0
 BehindFields at (read.Node n) = at + own n.head ≤ n.next
 BehindFields at (read.Refused x) = Unit {0}
 
-abbrev BehindFront : ℕ → Front → Type 0
+abbrev pub BehindFront : ℕ → Front → Type 0
 BehindFront at (front.Front k place line) = at + 2 ≤ place
 BehindFront at (front.Refused x) = Unit {0}
 
@@ -95,7 +94,7 @@ module _ (s : List ℕ) where
       go true false q = absurd (let z : ◌≡◌ {A = ℕ} 0 1 = cc in omega arith)
       go false y q = absurd (let z : ◌≡◌ {A = ℕ} 0 1 = cc in omega arith)
 
-  fields_behind : (va : Bool) (k : Kind) (at line : ℕ) → BehindFields at (fields_at s va k at line)
+  pub fields_behind : (va : Bool) (k : Kind) (at line : ℕ) → BehindFields at (fields_at s va k at line)
   unfolding fields_at
   fields_behind va Nil at line = omega arith
   fields_behind va True at line = omega arith
@@ -112,7 +111,7 @@ module _ (s : List ℕ) where
   fields_behind va Call at line = on_byte (BehindFields at) _ tt (byte_at s at) _ λ n e. omega arith
   fields_behind va Paren at line = omega arith
 
-  front_behind : (at line : ℕ) → BehindFront at (front_at s at line)
+  pub front_behind : (at line : ℕ) → BehindFront at (front_at s at line)
   front_behind at line =
       on_byte (BehindFront at) _ tt (byte_at s at) _ λ b e.
       on_kind (BehindFront at) _ tt (kind_of b) _ λ k.
@@ -120,23 +119,15 @@ module _ (s : List ℕ) where
       on_require (BehindFront at) _ tt (eqb (m / 2) (map_of k)) _
       (on_test (BehindFront at) (eqb (m % 2) 0) _ _ (omega arith) (on_line (BehindFront at) _ tt (line_at s (at + 2)) _ λ l i. omega arith))
 
-  earlier : (at at' : ℕ) (r : NodeRead) → at + 2 ≤ at' → BehindFields at' r → Behind at r
+  pub earlier : (at at' : ℕ) (r : NodeRead) → at + 2 ≤ at' → BehindFields at' r → Behind at r
   earlier at at' (read.Node n) l h = omega (arith, l, h)
   earlier at at' (read.Refused x) l h = tt
-
-  behind_front : (va : Bool) (at : ℕ) (f : Front) → BehindFront at f → Behind at (with_front f (fields_at s va))
-  behind_front va at (front.Front k place line) h = earlier at place (fields_at s va k place line) h (fields_behind va k place line)
-  behind_front va at (front.Refused x) h = tt
-
-  node_behind : (va : Bool) (at line : ℕ) → Behind at (node_at s va at line)
-  unfolding node_at
-  node_behind va at line = behind_front va at (front_at s at line) (front_behind at line)
 
   -- ---- trees
 
   -- sub-expressions are read by F
   module _ (F : ℕ → ℕ → Parsed Expr) (reads : (a : Expr) (at line at' line' : ℕ) → F at line ≡ parsed a at' line' → at + bytes a ≤ at') where
-    exprs_behind : (n : ℕ) (es : Exprs) (at line at' line' : ℕ) → exprs_at F n at line ≡ parsed es at' line' → at + bytes_all es ≤ at'
+    pub exprs_behind : (n : ℕ) (es : Exprs) (at line at' line' : ℕ) → exprs_at F n at line ≡ parsed es at' line' → at + bytes_all es ≤ at'
     unfolding exprs_at
     exprs_behind zero es at line at' line' e = let w = same_parsed no_more es at line at' line' e in omega (arith, bytes_none, ap bytes_all w.0, w.1.0)
     exprs_behind (suc n) es at line at' line' e =
@@ -145,7 +136,7 @@ module _ (s : List ℕ) where
         let w = same_parsed (more v.value u.value) es u.place u.own_line at' line' u.then in
         omega (arith, reads v.value at line v.place v.own_line v.first, exprs_behind n u.value v.place v.own_line u.place u.own_line u.first, bytes_more v.value u.value, ap bytes_all w.0, w.1.0)
 
-    head_behind : (sp : Span) (h : Head) (d : Expr) (at line at' line' : ℕ) → rest F sp h at line ≡ parsed d at' line' → at + bytes d ≤ at' + (2 + own h)
+    pub head_behind : (sp : Span) (h : Head) (d : Expr) (at line at' line' : ℕ) → rest F sp h at line ≡ parsed d at' line' → at + bytes d ≤ at' + (2 + own h)
     unfolding rest
     head_behind sp (head.Leaf x) d at line at' line' e = let w = same_parsed (leaf_node sp x) d at line at' line' e in omega (arith, bytes_leaf sp x, ap bytes w.0, w.1.0)
     head_behind sp (head.One o) d at line at' line' e =
@@ -162,18 +153,3 @@ module _ (s : List ℕ) where
         let u = invert (exprs_at F n v.place v.own_line) _ d at' line' v.then in
         let w = same_parsed (many_node sp k v.value u.value) d u.place u.own_line at' line' u.then in
         omega (arith, reads v.value at line v.place v.own_line v.first, exprs_behind n u.value v.place v.own_line u.place u.own_line u.first, bytes_many sp k v.value u.value, ap bytes w.0, w.1.0)
-
-  expr_behind : (va : Bool) (left : ℕ) (a : Expr) (at line at' line' : ℕ) → expr_at s va left at line ≡ parsed a at' line' → at + bytes a ≤ at'
-  unfolding expr_at
-  expr_behind va zero a at line at' line' e = absurd (let y : ◌≡◌ {A = ℕ} 0 1 = cc in omega arith)
-  expr_behind va (suc left) a at line at' line' e =
-      let v = node_is (node_at s va at line) _ a at' line' e in
-      let n = v.0 in
-      let h : at + (2 + own n.head) ≤ n.next = subst (Behind at) v.1.0 (node_behind va at line) in
-      omega (arith, h, head_behind (expr_at s va left) (expr_behind va left) (record { line = n.line; place = at; nesting = max_nesting - left }) n.head a n.next n.line at' line' v.1.1)
-
-  -- the nodes of an accepted chunk lie in its bytes
-  pub in_chunk : (c : Chunk) → Accepted s c → bytes_all c.formulas ≤ length s
-  in_chunk c a =
-      let va = a.head.varargs in
-      omega (arith, exprs_behind (expr_at s va max_nesting) (expr_behind va max_nesting) a.head.formulas c.formulas a.head.next 1 a.at a.line a.formulas, a.whole)

@@ -24,12 +24,12 @@ use Rattle.labelled.specs.Machine.{span}
 use Rattle.labelled.specs.Emission.{St}
 use Rattle.labelled.specs.Faithful.{count}
 use Rattle.labelled.specs.Expressions.{labelled}
-use Rattle.labelled.specs.Whole.{whole}
+use Rattle.labelled.proofs.Whole.{whole}
 use Rattle.threads.specs.Encoding.{enc_agree}
 use Rattle.threads.specs.Holding.{Ends, gives, refuses}
 use Rattle.threads.specs.Coded.{coded}
 use Rattle.simulation.specs.Whole.{LowersTo, count_is, whole_lowered}
-use Rattle.running.specs.Run.{ran}
+use Rattle.running.proofs.Run.{ran}
 use Rattle.faithful.specs.Counted.{counted}
 use Rattle.faithful.specs.Accepted.{Accepted, header_names}
 use Rattle.faithful.specs.Cases.{lowered_cases}

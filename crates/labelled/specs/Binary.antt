@@ -1,6 +1,7 @@
 -- Operators: concatenation, not, and, or, arithmetic with folding, comparisons, negation, length. A numeral that waits may be loaded last, for the right operand survives it.
+-- What rests on something that a must-fail edit breaks stands in proofs/Binary.antt.
 use Prim.Native.Nat.{ℕ, suc, ◌≤◌, ◌<◌}
-use Rattle.std.specs.Prelude.{Bool, not, ◌≡◌, List, [], ◌∷◌}
+use Rattle.std.specs.Prelude.{Bool, ◌≡◌, List, [], ◌∷◌}
 use Rattle.std.proofs.Math.Bool.{true, false}
 use Rattle.std.proofs.Math.Path.{refl, ap}
 use Rattle.std.proofs.Common.{sym, ◌∙◌, arith as nat}
@@ -10,7 +11,7 @@ use Rattle.model.specs.Values.{Value, number, value_of, is_true, StepKind, lengt
 use Rattle.model.specs.Running.{same as agrees}
 use Rattle.labelled.specs.Code.{Rk, reg, con, Ex, val, cp, glob, idx, ari, neg, len, notx, cat, vfst, setw, pl}
 use Rattle.labelled.specs.Machine.{Hist, Regs, Setting, then, list_of, pick, upd, upd_same, rk, Outcome, at, exit, cats, eval}
-use Rattle.labelled.specs.Emission.{St, add_k, flush, push, relabel, strip, hit}
+use Rattle.labelled.specs.Emission.{St, add_k, flush, push, strip, hit}
 use Rattle.labelled.specs.Discharge.{K4, kc, kr, kx, kj, kd, Des4, Pair, Par4, RkS, lab, fresh, add_p, freed, d2r, nextreg, via_reg, anyreg, as_rk, exp2rk, late}
 use Rattle.labelled.specs.Conditions.{go_if, not_s, labelled_code_not}
 use Rattle.labelled.specs.Outcomes.{size_push}
@@ -23,7 +24,7 @@ use Rattle.labelled.specs.Table.{is_near}
 use Rattle.labelled.specs.Operators.{num_c, num_k, numeral, left_of, late_of, Ops, right_first, left_if, left_first, ari_join, kcmp, cmp_join, neg_join, len_join, log₂, cat_x, cat_k, join_c}
 use Rattle.labelled.specs.Firm.{Agree, agree_upd, agree_trans, C, Z, push_at, push_pass, strip_pass, flush_keeps, re_at, re_hit, re_pass}
 use Rattle.labelled.specs.Loads.{cmp_a, finish4, Res4, fell, left}
-use Rattle.labelled.specs.Branching.{Went, through, gone, lab_0, go_if_res, go_if_pass, go_if_nxt, not_a, nots_pass, not_res}
+use Rattle.labelled.specs.Branching.{Went, through, gone, lab_0, go_if_nxt, not_a, nots_pass, not_res}
 use Rattle.labelled.specs.Owning.{OwnX, Own4, freed_own, own_le, not_own}
 use Rattle.labelled.specs.Good.{finish_l, Good, Good4, labs₀, Fell, mk_good, flush_pass, flush_is}
 use Rattle.labelled.specs.Operands.{rk_kept, Operand, next_op, no_left, still_op, good_add, rk_op, Both, two_ops, By, two, two_eq, two_pass}
@@ -145,7 +146,7 @@ module _ (Γ : Setting) where
   }
 
   -- AND, OR
-  lab_lo : (D : Regs → Hist → Taken Value) (f : ℕ) (s : St) (p : Par4) (c : Bool) → Good4 Γ D f s p → s.nxt ≤ lab c p.de
+  pub lab_lo : (D : Regs → Hist → Taken Value) (f : ℕ) (s : St) (p : Par4) (c : Bool) → Good4 Γ D f s p → s.nxt ≤ lab c p.de
   lab_lo D f s p true g = g.tlo
   lab_lo D f s p false g = g.flo
 
@@ -157,13 +158,13 @@ module _ (Γ : Setting) where
     abbrev m : ℕ
     m = lab c p₁.de
 
-    m0 : m ≡ 0 → ⊥
+    pub m0 : m ≡ 0 → ⊥
     m0 = lab_0 c p₁.de (labs₀ Γ (λ R h. D₁ h) f s p₁ l g₁)
 
-    lo₂ : (d : Bool) → p₁.st.nxt ≤ lab d p₂.de
+    pub lo₂ : (d : Bool) → p₁.st.nxt ≤ lab d p₂.de
     lo₂ d = omega (nat, lab_lo (λ R h. D₂ h) f (go_if c p₁) p₂ d g₂, go_if_nxt c p₁)
 
-    b0 : (d : Bool) → lab d p₂.de ≡ 0 → ⊥
+    pub b0 : (d : Bool) → lab d p₂.de ≡ 0 → ⊥
     b0 d = omega (nat, lo₂ d, g₁.nx)
 
     dm : (d : Bool) → lab d p₂.de ≡ m → ⊥
@@ -182,26 +183,11 @@ module _ (Γ : Setting) where
     unfolding log₂
     log_hit b R' h' q = re_hit Γ m (lab c p₂.de) p₂.st b R' h' m0 (b0 c) (g₂.pass m b R' h' m0 (omega (nat, lab_hi (λ R h. D₁ h) f s p₁ c g₁, go_if_nxt c p₁)) q)
 
-    log_main : (R : Regs) (h : Hist) → Agree Γ.active Γ.start R → Went c m (Z (go_if c p₁)) (C Γ (go_if c p₁)) f R (D₁ h) →
+    pub log_main : (R : Regs) (h : Hist) → Agree Γ.active Γ.start R → Went c m (Z (go_if c p₁)) (C Γ (go_if c p₁)) f R (D₁ h) →
         Res4 Γ (log₂ c m p₂).de (Z (log₂ c m p₂).st) (C Γ (log₂ c m p₂).st) f R (log_a c D₂ (D₁ h))
     log_main R h ag (through R' v h' q ag' z w) = rw (← w, z)
         (log_res₂ f R (D₂ h') (res_mono f p₂.de _ _ R R' (D₂ h') ag' (g₂.main R' h' (agree_trans Γ.active f Γ.start R R' na ag ag') q)))
     log_main R h ag (gone b R' v h' q ag' z y w) = rw (← w, z, agrees_refl c) (left c b R' v h' (log_hit b R' h' q) ag' z y refl)
-
-    pub log_good : Good4 Γ (λ R h. log_a c D₂ (D₁ h)) f s (log₂ c m p₂)
-    unfolding log₂ relabel
-    log_good = record {
-      own = g₂.own;
-      nx = omega (nat, g₁.nx, g₂.nx, go_if_nxt c p₁);
-      tlo = omega (nat, g₁.nx, lo₂ true);
-      thi = g₂.thi;
-      flo = omega (nat, g₁.nx, lo₂ false);
-      fhi = g₂.fhi;
-      ft = g₂.ft;
-      pass = λ ℓ b R h l0 ln e. re_pass Γ m (lab c p₂.de) p₂.st ℓ b R h m0 (b0 c) (omega (nat, lab_lo (λ R h. D₁ h) f s p₁ c g₁))
-          (g₂.pass ℓ b R h l0 (omega (nat, g₁.nx, go_if_nxt c p₁)) (go_if_pass Γ c p₁ ℓ b R h (labs₀ Γ (λ R h. D₁ h) f s p₁ l g₁) (omega (nat, lab_lo (λ R h. D₁ h) f s p₁ (not c) g₁)) (g₁.pass ℓ b R h l0 ln e)));
-      main = λ R h ag e. log_main R h ag (go_if_res Γ c p₁ f R (D₁ h) (labs₀ Γ (λ R h. D₁ h) f s p₁ l g₁) (own_le Γ.active p₁.de.k4 f p₁.st.free g₁.own) na (g₁.main R h ag e));
-    }
 
   -- A NUMERAL THAT WAITS
   pub record Late (q : RkS) (s : St) (v : Value) (R : Regs) (h : Hist) : Type 0 where

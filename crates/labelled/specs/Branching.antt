@@ -1,4 +1,5 @@
 -- goiftrue, goiffalse and not: the truth of the value decides which list a run leaves by, and a value that goes on has the other truth.
+-- What rests on something that a must-fail edit breaks stands in proofs/Branching.antt.
 use Rattle.std.specs.Prelude.{ℕ, ◌≤◌, Bool, not, ◌≡◌}
 use Rattle.std.proofs.Math.Bool.{true, false, not-not}
 use Rattle.std.proofs.Math.Path.{refl, ap}
@@ -197,7 +198,7 @@ module _ (Γ : Setting) where
   go_con_pass true true c v m s ℓ b R h m0 q = jump_pass Γ m s ℓ b R h m0 q
   go_con_pass true false c v m s ℓ b R h m0 q = on_load_pass c (kc v) m s ℓ b R h m0 q
 
-  go_jump_at : (c : Bool) (k : K4) (m n : ℕ) (s : St) (R R' : Regs) (h : Hist) → (m ≡ 0 → ⊥) → n ≤ s.free → Γ.active ≤ n → C Γ s ≡ at (Z s) R' h → Agree n R R' →
+  pub go_jump_at : (c : Bool) (k : K4) (m n : ℕ) (s : St) (R R' : Regs) (h : Hist) → (m ≡ 0 → ⊥) → n ≤ s.free → Γ.active ≤ n → C Γ s ≡ at (Z s) R' h → Agree n R R' →
       Went c m (Z (go_jump c k m s)) (C Γ (go_jump c k m s)) n R (finish4 Γ k R' h)
   unfolding go_jump finish4 cur_c CC
   go_jump_at c (kc v) m n s R R' h m0 l na q ag = go_con_at (agrees (is_true (value_of v)) c) (is_bool v) c v m n s R R' h refl refl m0 l na q ag
@@ -205,37 +206,24 @@ module _ (Γ : Setting) where
   go_jump_at c (kx x) m n s R R' h m0 l na q ag = on_x_at c x m n s R R' h m0 l q ag
   go_jump_at c (kj o d x y) m n s R R' h m0 l na q ag = cmp_went c o d x y m n s R R' h (compared Γ o x y R' h).steps (finish4 Γ (kj o d x y) R' h) m0 q ag refl refl
 
-  go_jump_pass : (c : Bool) (k : K4) (m : ℕ) (s : St) (ℓ : ℕ) (b : Option ℕ) (R : Regs) (h : Hist) → (m ≡ 0 → ⊥) → C Γ s ≡ exit ℓ b R h → C Γ (go_jump c k m s) ≡ exit ℓ b R h
+  pub go_jump_pass : (c : Bool) (k : K4) (m : ℕ) (s : St) (ℓ : ℕ) (b : Option ℕ) (R : Regs) (h : Hist) → (m ≡ 0 → ⊥) → C Γ s ≡ exit ℓ b R h → C Γ (go_jump c k m s) ≡ exit ℓ b R h
   unfolding go_jump cur_c CC
   go_jump_pass c (kc v) m s ℓ b R h m0 q = go_con_pass (agrees (is_true (value_of v)) c) (is_bool v) c v m s ℓ b R h m0 q
   go_jump_pass c (kr u r) m s ℓ b R h m0 q = push_pass Γ (br (tset r c) (lbl m)) s ℓ b R h m0 q
   go_jump_pass c (kx x) m s ℓ b R h m0 q = on_x_pass c x m s ℓ b R h m0 q
   go_jump_pass c (kj o d x y) m s ℓ b R h m0 q = push_pass Γ (br (cmp o (agrees d c) x y) (lbl m)) s ℓ b R h m0 q
 
-  here_went : (c : Bool) (e : Des4) (L : Lab₀ e) (n : ℕ) (s : St) (R : Regs) (a : Taken Value) → Went c (lab c e) (Z s) (C Γ s) n R a →
+  pub here_went : (c : Bool) (e : Des4) (L : Lab₀ e) (n : ℕ) (s : St) (R : Regs) (a : Taken Value) → Went c (lab c e) (Z s) (C Γ s) n R a →
       Went c (lab c e) (Z (labelled_to_here (lab (not c) e) s)) (C Γ (labelled_to_here (lab (not c) e) s)) n R a
   here_went c e L n s R a (through R' v h q ag z w) = through R' v h (here_at Γ (lab (not c) e) s R' h (lab_0 (not c) e L) q) ag z w
   here_went c e L n s R a (gone b R' v h q ag z y w) = gone b R' v h (here_pass Γ (lab (not c) e) s (lab c e) b R' h (lab_0 (not c) e L) (lab_ne c e L) q) ag z y w
 
-  here_left : (c d : Bool) (e : Des4) (L : Lab₀ e) (n : ℕ) (s : St) (b : Option ℕ) (R R' : Regs) (v : Value) (h : Hist) (a : Taken Value) → C Γ s ≡ exit (lab d e) b R' h → Agree n R R' → is_true v ≡ d → carried b R' d ≡ v → taken v h ≡ a →
+  pub here_left : (c d : Bool) (e : Des4) (L : Lab₀ e) (n : ℕ) (s : St) (b : Option ℕ) (R R' : Regs) (v : Value) (h : Hist) (a : Taken Value) → C Γ s ≡ exit (lab d e) b R' h → Agree n R R' → is_true v ≡ d → carried b R' d ≡ v → taken v h ≡ a →
       Went c (lab c e) (Z (labelled_to_here (lab (not c) e) s)) (C Γ (labelled_to_here (lab (not c) e) s)) n R a
   here_left true true e L n s b R R' v h a q ag z w y = gone b R' v h (here_pass Γ e.fl s e.tl b R' h L.f0 (λ x. L.ft (sym x)) q) ag z w y
   here_left false false e L n s b R R' v h a q ag z w y = gone b R' v h (here_pass Γ e.tl s e.fl b R' h L.t0 L.ft q) ag z w y
   here_left true false e L n s b R R' v h a q ag z w y = through R' v h (here_hit Γ e.fl s b R' h L.f0 q) ag (rw z refl) y
   here_left false true e L n s b R R' v h a q ag z w y = through R' v h (here_hit Γ e.tl s b R' h L.t0 q) ag (rw z refl) y
-
-  pub go_if_res : (c : Bool) (p : Par4) (n : ℕ) (R : Regs) (a : Taken Value) → Lab₀ p.de → n ≤ p.st.free → Γ.active ≤ n → Res4 Γ p.de (Z p.st) (C Γ p.st) n R a →
-      Went c (lab c p.de) (Z (go_if c p)) (C Γ (go_if c p)) n R a
-  unfolding go_if
-  go_if_res c p n R a L l na (fell R' h q ag w) = here_went c p.de L n (go_jump c p.de.k4 (lab c p.de) p.st) R a
-      (rw w at (go_jump_at c p.de.k4 (lab c p.de) n p.st R R' h (lab_0 c p.de L) l na q ag))
-  go_if_res c p n R a L l na (left d b R' v h q ag z w y) = here_left c d p.de L n (go_jump c p.de.k4 (lab c p.de) p.st) b R R' v h a
-      (go_jump_pass c p.de.k4 (lab c p.de) p.st (lab d p.de) b R' h (lab_0 c p.de L) q) ag z w y
-
-  pub go_if_pass : (c : Bool) (p : Par4) (ℓ : ℕ) (b : Option ℕ) (R : Regs) (h : Hist) → Lab₀ p.de → (ℓ ≡ lab (not c) p.de → ⊥) → C Γ p.st ≡ exit ℓ b R h → C Γ (go_if c p) ≡ exit ℓ b R h
-  unfolding go_if
-  go_if_pass c p ℓ b R h L l q = here_pass Γ (lab (not c) p.de) _ ℓ b R h (lab_0 (not c) p.de L) l
-      (go_jump_pass c p.de.k4 (lab c p.de) p.st ℓ b R h (lab_0 c p.de L) q)
 
   -- the operand of a Not that is emitted
   pub record Nots (s : St) (k : K4) (n : ℕ) (R : Regs) (a : Taken Value) : Type 0 where

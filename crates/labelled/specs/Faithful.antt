@@ -1,4 +1,5 @@
 -- Every expression of a chunk is good, by induction on the trees; all formulas after each other.
+-- What rests on something that a must-fail edit breaks stands in proofs/Faithful.antt.
 use Prim.Native.Nat.{ℕ, suc, ◌+◌, ◌≤◌, ◌<◌}
 use Rattle.std.specs.Prelude.{Bool, ◌≡◌}
 use Rattle.std.proofs.Math.Bool.{true, false}
@@ -10,14 +11,12 @@ use native.Mathlib.Omega.{arith as nat}
 use Rattle.constants.specs.Entry.{Constant, nil as knil, truth as ktruth, number as knumber, text as ktext}
 use Rattle.model.specs.Values.{Value, text, value_of, is_true, global_read, index_read, concatenation, Taken, taken, ask, compute}
 use Rattle.model.specs.Running.{same as agrees}
-use Rattle.labelled.specs.Code.{reg, size}
-use Rattle.labelled.specs.Machine.{Hist, Regs, Setting, then, first_value, list_of, pick, span, at, exec}
-use Rattle.labelled.specs.Emission.{St, add_k, one, flush}
+use Rattle.labelled.specs.Machine.{Hist, Regs, Setting, then, first_value, list_of, pick, span, at}
+use Rattle.labelled.specs.Emission.{St, add_k, flush}
 use Rattle.labelled.specs.Discharge.{kc, kd, kl, kg, kva, Pair, Par4, fresh, dv, freed, nextreg, via_reg, anyreg, as_rk, exp2rk}
-use Rattle.labelled.specs.Conditions.{go_if, labelled_code_not}
-use Rattle.labelled.specs.Outcomes.{cur_c}
-use Rattle.labelled.specs.Operators.{numeral, left_of, Form, logical, joining, arithmetic, comparing, indexing, form_of, indexed, comp_two}
-use Rattle.labelled.specs.Expressions.{text_c, labelled_code_self, resolved, comp_leaf, comp_one, callee, before, comp, comp_args, comp_all, begin}
+use Rattle.labelled.specs.Conditions.{labelled_code_not}
+use Rattle.labelled.specs.Operators.{numeral, Form, logical, joining, arithmetic, comparing, indexing, form_of, indexed}
+use Rattle.labelled.specs.Expressions.{text_c, labelled_code_self, resolved, comp_leaf, comp_one, callee, before}
 use Rattle.cursor.specs.Fields.{bytes_of}
 use Rattle.cursor.specs.declared.Text.{Text}
 use Rattle.ast.specs.declared.BinOp.TheVariants as bin
@@ -30,18 +29,18 @@ use Rattle.ast.specs.declared.Two.{Two}
 use Rattle.ast.specs.declared.Two.TheVariants as two_of
 use Rattle.ast.specs.declared.Many.{Many}
 use Rattle.ast.specs.declared.Many.TheVariants as many
-use Rattle.chunk.specs.Ast.{Expr, leaf as leaf_node, one as one_node, two as two_node, many as many_node, Exprs, none as no_more, more}
+use Rattle.chunk.specs.Ast.{Expr, Exprs, none as no_more, more}
 use Rattle.model.specs.Expressions.{search_local}
-use Rattle.model.specs.Reading.{local_named, local_or_global, read_leaf, read_one, read_binary, read_two, read_many, read_expr, read_args, read_formulas}
-use Rattle.labelled.specs.Firm.{Agree, agree_trans, CC, C, Z, flush_keeps}
+use Rattle.model.specs.Reading.{local_named, local_or_global, read_leaf, read_one, read_binary, read_two, read_many, read_expr, read_formulas}
+use Rattle.labelled.specs.Firm.{Agree, agree_trans, C, Z, flush_keeps}
 use Rattle.labelled.specs.Loads.{finish4, Done}
-use Rattle.labelled.specs.Settling.{next_res, next_free, next_nxt}
-use Rattle.labelled.specs.Branching.{go_if_nxt, go_if_free, not_a, agrees_with_true, agrees_with_false}
+use Rattle.labelled.specs.Settling.{next_free, next_nxt}
+use Rattle.labelled.specs.Branching.{not_a, agrees_with_true, agrees_with_false}
 use Rattle.labelled.specs.Owning.{freed_own, any_low}
-use Rattle.labelled.specs.Good.{finish_l, Good, Good4, labs, dv_good, lift_good, mk_good, flush_pass, flush_is, good_f, good_eq, plain_good}
+use Rattle.labelled.specs.Good.{finish_l, Good, Good4, dv_good, lift_good, mk_good, flush_pass, flush_is, plain_good}
 use Rattle.labelled.specs.Operands.{next_op, any_op, rk_op, By, two, idx_good}
-use Rattle.labelled.specs.Binary.{cat_good, not_good, log_a, log_good, left_op, ari_good, cmp_s, cmp_good, len_good, neg_good}
-use Rattle.labelled.specs.Calls.{Dargs, none_good, last_good, self_pass, self_keeps, meth_at, seq_good, call_d, call_eq, cons_l, more_eq, meth_good}
+use Rattle.labelled.specs.Binary.{not_good, log_a, left_op, cmp_s, len_good, neg_good}
+use Rattle.labelled.specs.Calls.{Dargs, self_pass, self_keeps, meth_at, seq_good, call_d, call_eq, cons_l, more_eq, meth_good}
 
 abbrev pub count : Exprs → ℕ
 count no_more = 0
@@ -72,7 +71,7 @@ module _ (Γ : Setting) where
       (λ R h ag e. record { rg = R; hs = h; is = flush_is Γ s R h e; kept = λ k z. refl; got = refl })
 
   -- an index read, the key lowered by a function that is good
-  index_good : (A : Hist → Taken Value) (B : Hist → Taken (List Value)) (s : St) (p : Par4) (q : Pair) → 1 ≤ s.nxt → Γ.active ≤ s.free → Good4 Γ (By A) s.free s p → Good Γ (λ R h. B h) (anyreg p).st.free (anyreg p).st q →
+  pub index_good : (A : Hist → Taken Value) (B : Hist → Taken (List Value)) (s : St) (p : Par4) (q : Pair) → 1 ≤ s.nxt → Γ.active ≤ s.free → Good4 Γ (By A) s.free s p → Good Γ (λ R h. B h) (anyreg p).st.free (anyreg p).st q →
       Good Γ (λ R h. list_of (two A (λ h₁. first_value (B h₁)) (λ v u h₁. ask Γ.world index_read (v ∷ u ∷ []) h₁) h)) s.free s (indexed s.free (anyreg p).rgn (exp2rk (dv q)))
   index_good A B s p q l na g₁ g₂ =
       let o₁ = any_op Γ (By A) s.free s p l na g₁ in
@@ -80,7 +79,7 @@ module _ (Γ : Setting) where
       (rk_op Γ (λ R h. first_value (B h)) (anyreg p).st.free (anyreg p).st (dv q) (omega (nat, o₁.nx)) (omega (nat, o₁.fr)) (dv_good Γ (λ R h. B h) (anyreg p).st.free (anyreg p).st q g₂))
 
   -- ---- two operands, by form
-  abbrev read_form : Form → (Hist → Taken Value) → (Hist → Taken Value) → Hist → Taken Value
+  abbrev pub read_form : Form → (Hist → Taken Value) → (Hist → Taken Value) → Hist → Taken Value
   read_form (logical c) A B h = log_a c B (A h)
   read_form joining A B h = two A B (λ v u h₁. ask Γ.world concatenation (v ∷ u ∷ []) h₁) h
   read_form (arithmetic o) A B h = two A B (compute Γ.world o) h
@@ -95,37 +94,11 @@ module _ (Γ : Setting) where
     abbrev B₁ : Hist → Taken Value
     B₁ h = first_value (B h)
 
-    right4 : (s₂ : St) → 1 ≤ s₂.nxt → Γ.active ≤ s₂.free → Good4 Γ (By B₁) s₂.free s₂ (dv (right s₂))
+    pub right4 : (s₂ : St) → 1 ≤ s₂.nxt → Γ.active ≤ s₂.free → Good4 Γ (By B₁) s₂.free s₂ (dv (right s₂))
     right4 s₂ l₂ n₂ = dv_good Γ (λ R h. B h) s₂.free s₂ (right s₂) (gr s₂ l₂ n₂)
 
-    own₁ : freed p.de.k4 p.st.free ≡ s.free
+    pub own₁ : freed p.de.k4 p.st.free ≡ s.free
     own₁ = freed_own Γ.active p.de.k4 s.free p.st.free g₁.own
-
-    form_good : (F : Form) → Good Γ (λ R h. list_of (read_form F A B₁ h)) s.free s (comp_two F s.free p right)
-    unfolding comp_two
-    form_good (logical c) =
-        let fo : (go_if c p).free ≡ s.free = go_if_free c p ∙ own₁ in
-        let g₂ = good_f Γ (By B₁) (go_if c p).free s.free (go_if c p) (dv (right (go_if c p))) fo (right4 (go_if c p) (omega (nat, g₁.nx, go_if_nxt c p)) (omega (nat, fo))) in
-        lift_good Γ (λ R h. log_a c B₁ (A h)) s.free s _ (log_good Γ c A B₁ s.free s p (dv (right (go_if c p))) l na g₁ g₂)
-    form_good joining =
-        let o₁ = next_op Γ (By A) s.free s p l na g₁ in
-        let fx : (nextreg p).free ≡ suc s.free = next_free p ∙ ap suc own₁ in
-        cat_good Γ A B₁ s (as_rk (via_reg p)) na l o₁ (ap reg own₁) fx (dv (right (nextreg p))) (right4 (nextreg p) (omega (nat, o₁.nx)) (omega (nat, o₁.fr)))
-    form_good (arithmetic o) =
-        let o₁ = left_op Γ (By A) s.free s p l na g₁ in
-        let x = left_of (numeral p) p in
-        let l₂ : 1 ≤ x.st.nxt = omega (nat, o₁.nx) in let n₂ : Γ.active ≤ x.st.free = omega (nat, o₁.fr) in
-        let g₂ = right4 x.st l₂ n₂ in
-        let q = dv (right x.st) in
-        ari_good Γ o A B₁ s na (numeral p) (numeral q) p q o₁ (left_op Γ (By B₁) x.st.free x.st q l₂ n₂ g₂) (rk_op Γ (By B₁) x.st.free x.st q l₂ n₂ g₂)
-    form_good (comparing o c w) =
-        let o₁ = left_op Γ (By A) s.free s p l na g₁ in
-        let x = left_of (numeral p) p in
-        let l₂ : 1 ≤ x.st.nxt = omega (nat, o₁.nx) in let n₂ : Γ.active ≤ x.st.free = omega (nat, o₁.fr) in
-        cmp_good Γ o c w A B₁ s na (numeral p) p (dv (right x.st)) l₂ n₂ o₁ (right4 x.st l₂ n₂)
-    form_good indexing =
-        let o₁ = any_op Γ (By A) s.free s p l na g₁ in
-        index_good A B s p (right (anyreg p).st) l na g₁ (gr (anyreg p).st (omega (nat, o₁.nx)) (omega (nat, o₁.fr)))
 
   -- ---- THE THEOREM
   -- a local that is found stands in its register
@@ -144,7 +117,7 @@ module _ (Γ : Setting) where
     name_good t none o s f = rw f (global_good (bytes_of chunk t) s)
     name_good t (some r) o s f = rw f.1 (local_good r s f.0)
 
-    leaf_good : (l : Leaf) (s : St) → Good Γ (λ R h. read_leaf Γ.world chunk names locals Γ.varargs l h) s.free s (comp_leaf chunk names l s)
+    pub leaf_good : (l : Leaf) (s : St) → Good Γ (λ R h. read_leaf Γ.world chunk names locals Γ.varargs l h) s.free s (comp_leaf chunk names l s)
     unfolding comp_leaf read_leaf
     leaf_good leaf.Nil s = con_good knil s
     leaf_good leaf.True s = con_good (ktruth true) s
@@ -154,7 +127,7 @@ module _ (Γ : Setting) where
     leaf_good leaf.VarArg s = vararg_good s
     leaf_good (leaf.Name t) s = name_good t (search_local chunk (bytes_of chunk t) names 0) (local_named chunk (bytes_of chunk t) names locals) s (finds (bytes_of chunk t))
 
-    one_good : (o : One) (A : Hist → Taken Value) (s : St) (p : Par4) → 1 ≤ s.nxt → Γ.active ≤ s.free → Good4 Γ (By A) s.free s p →
+    pub one_good : (o : One) (A : Hist → Taken Value) (s : St) (p : Par4) → 1 ≤ s.nxt → Γ.active ≤ s.free → Good4 Γ (By A) s.free s p →
         Good Γ (λ R h. list_of (then (A h) (read_one Γ.world chunk names locals Γ.varargs o))) s.free s (comp_one chunk names o s.free p)
     unfolding comp_one read_one
     one_good (one.Unary un.Neg) A s p l na g = neg_good Γ A s (numeral p) p (left_op Γ (By A) s.free s p l na g) (any_op Γ (By A) s.free s p l na g)
@@ -163,7 +136,7 @@ module _ (Γ : Setting) where
     one_good (one.Field t) A s p l na g = index_good A (λ h. taken (text (bytes_of chunk t) ∷ []) h) s p (text_c (bytes_of chunk t) (anyreg p).st) l na g (text_good (bytes_of chunk t) (anyreg p).st)
     one_good one.Paren A s p l na g = lift_good Γ (By A) s.free s p g
 
-    form_reads : (t : Two) (A B : Hist → Taken Value) (h : Hist) → read_form (form_of t) A B h ≡ read_two Γ.world chunk names locals Γ.varargs t A B h
+    pub form_reads : (t : Two) (A B : Hist → Taken Value) (h : Hist) → read_form (form_of t) A B h ≡ read_two Γ.world chunk names locals Γ.varargs t A B h
     unfolding read_two read_binary
     form_reads (two_of.Binary bin.And) A B h = go (is_true (A h).gives)
       where
@@ -191,7 +164,7 @@ module _ (Γ : Setting) where
     form_reads two_of.Index A B h = refl
 
     -- arguments behind the function, or behind the method and its object
-    many_good : (m : Many) (A : Hist → Taken Value) (L : Hist → Taken (List Value)) (s : St) (p : Par4) (args : ℕ → ℕ → St → Pair) → 1 ≤ s.nxt → Γ.active ≤ s.free → Good4 Γ (By A) s.free s p →
+    pub many_good : (m : Many) (A : Hist → Taken Value) (L : Hist → Taken (List Value)) (s : St) (p : Par4) (args : ℕ → ℕ → St → Pair) → 1 ≤ s.nxt → Γ.active ≤ s.free → Good4 Γ (By A) s.free s p →
         ((b n : ℕ) (s₂ : St) → 1 ≤ s₂.nxt → Γ.active ≤ b → s₂.free ≡ suc (n + b) → Good Γ (Dargs Γ L b n) b s₂ (args b n s₂)) →
         Good Γ (λ R h. read_many Γ.world chunk names locals Γ.varargs m A L h) s.free s (args s.free (before chunk names m) (callee chunk names m s.free p))
     unfolding callee read_many
@@ -211,7 +184,7 @@ module _ (Γ : Setting) where
         (λ R h ag e. meth_at Γ A (bytes_of chunk t) s x lr o₁ R h ag e) (ga s.free 1 s₂ (omega (nat, o₁.nx, sk.1)) na (let e : 2 + s.free ≡ suc (1 + s.free) = omega nat in sk.0 ∙ e))
 
     -- an argument, and those behind it
-    next_arg : (a : Hist → Taken (List Value)) (L : Hist → Taken (List Value)) (b n : ℕ) (s : St) (q r : Pair) → 1 ≤ s.nxt → Γ.active ≤ b → s.free ≡ suc (n + b) → Good Γ (λ R h. a h) s.free s q →
+    pub next_arg : (a : Hist → Taken (List Value)) (L : Hist → Taken (List Value)) (b n : ℕ) (s : St) (q r : Pair) → 1 ≤ s.nxt → Γ.active ≤ b → s.free ≡ suc (n + b) → Good Γ (λ R h. a h) s.free s q →
         Good Γ (Dargs Γ L b (suc n)) b (nextreg (dv q)) r → Good Γ (Dargs Γ (cons_l a L) b n) b s r
     next_arg a L b n s q r l na fs g gr =
         let n₁ : Γ.active ≤ s.free = omega nat in
@@ -227,29 +200,6 @@ module _ (Γ : Setting) where
         let fo = freed_own Γ.active (dv q).de.k4 s.free (dv q).st.free g₁.own in
         let e : suc (suc (n + b)) ≡ suc (suc n + b) = omega nat in
         (omega (nat, next_nxt (dv q)), next_free (dv q) ∙ ap suc (fo ∙ fs) ∙ e)
-
-    mutual
-      unfolding comp comp_args read_expr read_args
-
-      pub comp_good : (a : Expr) (s : St) → 1 ≤ s.nxt → Γ.active ≤ s.free → Good Γ (λ R h. reads a h) s.free s (comp chunk names a s)
-      comp_good (leaf_node _ x) s l na = leaf_good x s
-      comp_good (one_node _ o a) s l na = one_good o (reads₁ a) s (dv (comp chunk names a s)) l na (dv_good Γ (λ R h. reads a h) s.free s (comp chunk names a s) (comp_good a s l na))
-      comp_good (two_node sp t a b) s l na =
-          good_eq Γ (λ R h. list_of (read_form (form_of t) (reads₁ a) (reads₁ b) h)) (λ R h. reads (two_node sp t a b) h) s.free s (comp_two (form_of t) s.free (dv (comp chunk names a s)) (comp chunk names b)) (λ R h. ap list_of (form_reads t (reads₁ a) (reads₁ b) h))
-          (form_good (reads₁ a) (reads b) s (dv (comp chunk names a s)) (comp chunk names b) l na (dv_good Γ (λ R h. reads a h) s.free s (comp chunk names a s) (comp_good a s l na)) (λ s₂ l₂ n₂. comp_good b s₂ l₂ n₂) (form_of t))
-      comp_good (many_node _ m a es) s l na =
-          many_good m (reads₁ a) (read_args Γ.world chunk names locals Γ.varargs es) s (dv (comp chunk names a s)) (comp_args chunk names es) l na
-          (dv_good Γ (λ R h. reads a h) s.free s (comp chunk names a s) (comp_good a s l na)) (λ b n s₂ l₂ nb fs. args_good es b n s₂ l₂ nb fs)
-
-      pub args_good : (es : Exprs) (b n : ℕ) (s : St) → 1 ≤ s.nxt → Γ.active ≤ b → s.free ≡ suc (n + b) → Good Γ (Dargs Γ (read_args Γ.world chunk names locals Γ.varargs es) b n) b s (comp_args chunk names es b n s)
-      args_good no_more b n s l na fs = none_good Γ b n s
-      args_good (more a no_more) b n s l na fs =
-          last_good Γ (reads a) b n s (comp chunk names a s).de.kind (comp chunk names a s).de.tl (comp chunk names a s).de.fl (comp chunk names a s).st l na fs (comp_good a s l (omega nat))
-      args_good (more a (more c es)) b n s l na fs =
-          let g = comp_good a s l (omega nat) in
-          let k = next_arg_l (reads a) b n s (comp chunk names a s) l na fs g in
-          next_arg (reads a) (read_args Γ.world chunk names locals Γ.varargs (more c es)) b n s (comp chunk names a s) (comp_args chunk names (more c es) b (suc n) (nextreg (dv (comp chunk names a s)))) l na fs g
-          (args_good (more c es) b (suc n) (nextreg (dv (comp chunk names a s))) k.0 na k.1)
 
     -- ---- all formulas
 
@@ -267,7 +217,7 @@ module _ (Γ : Setting) where
     cons_eq : (A : Taken Value) (v : Value) (h₁ h₂ : Hist) (vs : List Value) (L : Hist → Taken (List Value)) → taken v h₁ ≡ A → taken vs h₂ ≡ L h₁ → taken (v ∷ vs) h₂ ≡ then A (λ v h₁. then (L h₁) λ vs h₂. taken (v ∷ vs) h₂)
     cons_eq A v h₁ h₂ vs L p q = rw (← p) (rw (← q) refl)
 
-    ran_cons : (a : Expr) (es : Exprs) (f : ℕ) (s₁ s₂ : St) (R : Regs) (h : Hist) (d : Done Γ s₁ f f R (reads₁ a h)) → Ran es (suc f) s₂ d.rg d.hs → Ran (more a es) f s₂ R h
+    pub ran_cons : (a : Expr) (es : Exprs) (f : ℕ) (s₁ s₂ : St) (R : Regs) (h : Hist) (d : Done Γ s₁ f f R (reads₁ a h)) → Ran es (suc f) s₂ d.rg d.hs → Ran (more a es) f s₂ R h
     unfolding read_formulas
     ran_cons a es f s₁ s₂ R h d q = record {
       rg = q.rg;
@@ -276,18 +226,3 @@ module _ (Γ : Setting) where
       kept = agree_trans f (suc f) R d.rg q.rg (omega nat) d.kept q.kept;
       got = cons_eq (reads₁ a h) (q.rg f) d.hs q.hs (span (count es) (suc f) q.rg) (reads_all es) (ap (λ v. taken v d.hs) (q.kept f (omega nat)) ∙ d.got) q.got;
     }
-
-    pub all_ran : (es : Exprs) (f : ℕ) (s : St) → 1 ≤ s.nxt → Γ.active ≤ f → s.free ≡ f → (R : Regs) (h : Hist) → Agree Γ.active Γ.start R → C Γ s ≡ at (Z s) R h → Ran es f (comp_all chunk names es s) R h
-    unfolding comp_all read_formulas
-    all_ran no_more f s l na ef R h ag e = record { rg = R; hs = h; is = e; kept = λ k z. refl; got = refl }
-    all_ran (more a es) f s l na ef R h ag e =
-        let p = dv (comp chunk names a s) in
-        let g = good_f Γ (By (reads₁ a)) s.free f s p ef (dv_good Γ (λ R h. reads a h) s.free s (comp chunk names a s) (comp_good a s l (omega nat))) in
-        let fo = freed_own Γ.active p.de.k4 f p.st.free g.own in
-        let d = next_res Γ p f f R (reads₁ a h) (labs Γ (By (reads₁ a)) f s p l g) fo (omega nat) na (g.main R h ag e) in
-        ran_cons a es f (nextreg p) (comp_all chunk names es (nextreg p)) R h d
-        (all_ran es (suc f) (nextreg p) (omega (nat, next_nxt p)) (omega nat) (next_free p ∙ ap suc fo) d.rg d.hs (agree_trans Γ.active f Γ.start R d.rg na ag d.kept) d.is)
-
-    pub begun : (es : Exprs) → Ran es Γ.active (comp_all chunk names es (begin Γ.active)) Γ.start []
-    unfolding cur_c exec size CC
-    begun es = all_ran es Γ.active (begin Γ.active) (omega nat) (omega nat) refl Γ.start [] (λ k z. refl) refl

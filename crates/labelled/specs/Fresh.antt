@@ -1,4 +1,5 @@
 -- Labels in the code are below the next one: so a new label has no jump yet. Each operation keeps it, since it writes only labels of descriptors and label 0; then by induction on the trees.
+-- What rests on something that a must-fail edit breaks stands in proofs/Fresh.antt.
 use Rattle.std.specs.Prelude.{ℕ, suc, ◌+◌, ◌≤◌, ◌<◌, Bool, not, ◌≡◌, refl, List, [], ◌∷◌, leb}
 use Rattle.std.proofs.Math.Bool.{true, false}
 use Rattle.std.proofs.Common.{sym, subst}
@@ -18,7 +19,6 @@ use Rattle.ast.specs.declared.One.{One}
 use Rattle.ast.specs.declared.One.TheVariants as one_of_lem
 use Rattle.ast.specs.declared.Many.{Many}
 use Rattle.ast.specs.declared.Many.TheVariants as many
-use Rattle.chunk.specs.Ast.{Expr, leaf as leaf_node, one as one_node, two as two_node, many as many_node, Exprs, none as no_more, more}
 use Rattle.model.specs.Values.{value_of, is_true, StepKind, folds, truth, number, text}
 use Rattle.model.specs.Expressions.{search_local}
 use Rattle.model.specs.Running.{same as agrees}
@@ -27,12 +27,11 @@ use Rattle.labelled.specs.Machine.{pick}
 use Rattle.labelled.specs.Table.{roomy, is_near}
 use Rattle.labelled.specs.Emission.{St, set_free, add_k, one, flush, push, labelled_emit_jump, relabel, strip, hit, here_if, labelled_to_here, in_range, extend, nil_top}
 use Rattle.labelled.specs.Discharge.{K4, kc, kr, kx, kj, K, kd, kl, kg, ki, kcl, kva, Des4, Pair, Par4, RkS, RgS, lab, fresh, lift4, add_p, dv_s, dv, freed, load_con, d2r, lands, pair_g, load_pair, land_all, settle, e2r, nextreg, any_k, anyreg, con_rk, small_rk, rk_c, rk_k, exp2rk, late}
-use Rattle.labelled.specs.Conditions.{on_load, on_x, is_bool, go_con, go_jump, go_if, not_s, labelled_code_not}
-use Rattle.labelled.specs.Operators.{numeral, left_of, late_of, right_first, left_if, left_first, ari_join, cmp_join, neg_join, len_join, log₂, cat_x, cat_k, join_c, Form, logical, joining, arithmetic, comparing, indexing, form_of, indexed, comp_two}
-use Rattle.labelled.specs.Expressions.{text_c, labelled_closed_call, last_arg, labelled_code_self, resolved, comp_leaf, comp_one, callee, before, comp, comp_args}
+use Rattle.labelled.specs.Conditions.{on_load, on_x, is_bool, go_con, go_jump, not_s, labelled_code_not}
+use Rattle.labelled.specs.Operators.{numeral, left_of, late_of, right_first, left_if, left_first, ari_join, cmp_join, neg_join, len_join, log₂, cat_x, cat_k, join_c, indexed}
+use Rattle.labelled.specs.Expressions.{text_c, labelled_closed_call, last_arg, labelled_code_self, resolved, comp_leaf, comp_one, callee}
 use Rattle.labelled.specs.Loads.{d2r_nxt}
 use Rattle.labelled.specs.Settling.{next_nxt}
-use Rattle.labelled.specs.Branching.{go_if_nxt}
 use Rattle.labelled.specs.Binary.{not_nxt}
 
 -- ---- labels below n
@@ -220,10 +219,6 @@ module _ (n : ℕ) (pos : 1 ≤ n) where
   go_jump_u c (kx x) m s l h = on_x_u c x m s l h
   go_jump_u c (kj p d x y) m s l h = push_u (br (cmp p (agrees d c) x y) (lbl m)) s l h
 
-  go_u : (c : Bool) (p : Par4) → lab c p.de < n → U p.st → U (go_if c p)
-  unfolding go_if
-  go_u c p l h = here_u (lab (not c) p.de) _ (go_jump_u c p.de.k4 (lab c p.de) p.st l h)
-
   pub not_s_u : (k : K4) (s : St) → U s → U (not_s k s)
   unfolding not_s
   not_s_u (kc v) s h = h
@@ -264,11 +259,11 @@ unfolding nextreg
 next_code p l h = e2r_u (suc p.st.nxt) (omega nat) p.de (freed p.de.k4 p.st.free) p.st l (omega nat) h
 
 module _ (n : ℕ) (pos : 1 ≤ n) where
-  lab_old : (c : Bool) (p : Par4) → New4 n p → lab c p.de < p.st.nxt
+  pub lab_old : (c : Bool) (p : Par4) → New4 n p → lab c p.de < p.st.nxt
   lab_old true p o = o.tl_old
   lab_old false p o = o.fl_old
 
-  at_least : (s : St) → On n s → 1 ≤ s.nxt
+  pub at_least : (s : St) → On n s → 1 ≤ s.nxt
   at_least s o = omega (nat, o.up)
 
   pub next_on : (p : Par4) → New4 n p → On n (nextreg p)
@@ -359,9 +354,6 @@ module _ (n : ℕ) (pos : 1 ≤ n) where
   pub before_on : (m : Option ℕ) (p : Par4) → New4 n p → On n (left_of m p).st
   before_on none p o = rk_on p o
   before_on (some k) p o = o.on
-
-  pub go_on : (c : Bool) (p : Par4) → New4 n p → On n (go_if c p)
-  go_on c p o = keep_on p.st (go_if c p) (go_if_nxt c p) o.on (go_u p.st.nxt (at_least p.st o.on) c p (lab_old c p o) o.on.old)
 
   -- descriptors
   pub fresh_new : (k : K) (m : ℕ) (s : St) → On n s → New n (fresh k m s)
@@ -458,15 +450,6 @@ module _ (n : ℕ) (pos : 1 ≤ n) where
   pub index_new : (f r : ℕ) (p : Pair) → New n p → New n (indexed f r (exp2rk (dv p)))
   index_new f r p o = fresh_new _ _ (exp2rk (dv p)).st (rk_on (dv p) (dv_new p o))
 
-  pub two_new : (F : Form) (f : ℕ) (p : Par4) (right : St → Pair) → New4 n p → ((u : St) → On n u → New n (right u)) → New n (comp_two F f p right)
-  unfolding comp_two
-  two_new (logical c) f p right o r = lift_new _ (log_new c (lab c p.de) (dv (right (go_if c p))) (dv_new (right (go_if c p)) (r (go_if c p) (go_on c p o))))
-  two_new joining f p right o r = join_new f (dv (right (nextreg p))) (dv_new (right (nextreg p)) (r (nextreg p) (next_on p o)))
-  two_new (arithmetic a) f p right o r = let x = left_of (numeral p) p in let q = dv (right x.st) in
-      ari_new (folds a (numeral p) (numeral q)) a f (numeral p) x q (dv_new (right x.st) (r x.st (before_on (numeral p) p o)))
-  two_new (comparing k c w) f p right o r = let x = left_of (numeral p) p in cmp_new k c w f (numeral p) x (dv (right x.st)) (dv_new (right x.st) (r x.st (before_on (numeral p) p o)))
-  two_new indexing f p right o r = index_new f (anyreg p).rgn (right (anyreg p).st) (r (anyreg p).st (any_on p o))
-
   pub text_new : (t : List ℕ) (s : St) → On n s → New n (text_c t s)
   text_new t s o = fresh_new (kd (kc (ktext t))) s.free (add_k (ktext t) s) (add_on (ktext t) s o)
 
@@ -498,7 +481,7 @@ module _ (chunk : List ℕ) (names : List Text) where
     name_new name none s o = fresh_new n pos (kg name) s.free (add_k (ktext name) s) (add_on n pos (ktext name) s o)
     name_new name (some r) s o = fresh_new n pos (kl r) s.free s o
 
-    leaf_new : (l : Leaf) (s : St) → On n s → New n (comp_leaf chunk names l s)
+    pub leaf_new : (l : Leaf) (s : St) → On n s → New n (comp_leaf chunk names l s)
     unfolding comp_leaf
     leaf_new leaf.Nil s o = fresh_new n pos _ s.free s o
     leaf_new leaf.True s o = fresh_new n pos _ s.free s o
@@ -508,7 +491,7 @@ module _ (chunk : List ℕ) (names : List Text) where
     leaf_new leaf.VarArg s o = fresh_new n pos kva s.free (flush s) (flush_on n pos s o)
     leaf_new (leaf.Name t) s o = name_new (bytes_of chunk t) (search_local chunk (bytes_of chunk t) names 0) s o
 
-    one_new : (a : One) (f : ℕ) (p : Par4) → New4 n p → New n (comp_one chunk names a f p)
+    pub one_new : (a : One) (f : ℕ) (p : Par4) → New4 n p → New n (comp_one chunk names a f p)
     unfolding comp_one
     one_new (one_of_lem.Unary un.Neg) f p o = neg_new n pos (folds arith.Unm (numeral p) (numeral p)) f p o
     one_new (one_of_lem.Unary un.Not) f p o = lift_new n pos (labelled_code_not p) (not_new n pos p o)
@@ -520,17 +503,3 @@ module _ (chunk : List ℕ) (names : List Text) where
     unfolding callee
     callee_on many.Call f p o = next_on n pos p o
     callee_on (many.MethodCall t) f p o = self_on n pos (bytes_of chunk t) (anyreg p) f (any_on n pos p o)
-
-    mutual
-      unfolding comp comp_args
-
-      pub comp_new : (a : Expr) (s : St) → On n s → New n (comp chunk names a s)
-      comp_new (leaf_node _ l) s o = leaf_new l s o
-      comp_new (one_node _ x a) s o = one_new x s.free (dv (comp chunk names a s)) (dv_new n pos (comp chunk names a s) (comp_new a s o))
-      comp_new (two_node _ t a b) s o = two_new n pos (form_of t) s.free (dv (comp chunk names a s)) (comp chunk names b) (dv_new n pos (comp chunk names a s) (comp_new a s o)) (λ u v. comp_new b u v)
-      comp_new (many_node _ m a es) s o = args_new es s.free (before chunk names m) (callee chunk names m s.free (dv (comp chunk names a s))) (callee_on m s.free (dv (comp chunk names a s)) (dv_new n pos (comp chunk names a s) (comp_new a s o)))
-
-      pub args_new : (es : Exprs) (b m : ℕ) (s : St) → On n s → New n (comp_args chunk names es b m s)
-      args_new no_more b m s o = call_new n pos b m s o
-      args_new (more a no_more) b m s o = last_new n pos b m (comp chunk names a s).de.kind (comp chunk names a s) (comp_new a s o)
-      args_new (more a (more c es)) b m s o = args_new (more c es) b (suc m) (nextreg (dv (comp chunk names a s))) (next_on n pos (dv (comp chunk names a s)) (dv_new n pos (comp chunk names a s) (comp_new a s o)))

@@ -1,6 +1,7 @@
 -- Operators, calls and nodes keep the constants in order, by induction on the trees; so the labelled code of all formulas has every constant listed, RK constants at most at 255, none twice.
+-- What rests on something that a must-fail edit breaks stands in proofs/Listing.antt.
 use Prim.Native.Nat.{ℕ, suc, ◌+◌, ◌≤◌}
-use Rattle.std.specs.Prelude.{Bool, true, false, not, ◌≡◌, refl, List, [], length}
+use Rattle.std.specs.Prelude.{Bool, true, false, not, ◌≡◌, refl, List, length}
 use Rattle.std.proofs.Math.Path.{ap, sym}
 use Rattle.std.proofs.Common.{◌∙◌, subst, zero-add}
 use Rattle.std.proofs.Math.Option.{Option, some, none}
@@ -20,31 +21,25 @@ use Rattle.ast.specs.declared.One.{One}
 use Rattle.ast.specs.declared.One.TheVariants as one_of_lem
 use Rattle.ast.specs.declared.Many.{Many}
 use Rattle.ast.specs.declared.Many.TheVariants as many
-use Rattle.chunk.specs.Ast.{Expr, leaf as leaf_node, one as one_node, two as two_node, many as many_node, Exprs, none as no_more, more}
 use Rattle.model.specs.Values.{Value, number, value_of, is_true, StepKind, Taken, folds}
 use Rattle.model.specs.Expressions.{search_local}
 use Rattle.model.specs.Running.{same as agrees}
 use Rattle.labelled.specs.Code.{Rk, con, Ex, val, cp, glob, idx, ari, neg, len, notx, cat, vfst, cfix, cva, CT, cct, cbase, test, tset, cmp, lbl, setw, selfw, pl, br}
 use Rattle.labelled.specs.Table.{place, include, is_near}
-use Rattle.labelled.specs.Places.{Listed, Grows, grows_include, place_include, listed_include, near_place, Distinct, distinct_empty}
+use Rattle.labelled.specs.Places.{Listed, Grows, grows_include, place_include, listed_include, near_place}
 use Rattle.labelled.specs.Emission.{St, set_free, add_k, flush, push, relabel, strip, hit}
 use Rattle.labelled.specs.Discharge.{freed, K4, kc, kr, kx, kj, K, kd, kl, kg, ki, kcl, kva, Pair, Par4, RkS, RgS, lab, fresh, add_p, dv, d2r, nextreg, anyreg, exp2rk, late}
-use Rattle.labelled.specs.Conditions.{on_load, on_x, is_bool, go_con, go_jump, go_if, not_k, not_s, labelled_code_not}
-use Rattle.labelled.specs.Operators.{numeral, left_of, late_of, Ops, right_first, left_if, left_first, ari_join, kcmp, cmp_join, neg_join, len_join, log₂, cat_x, cat_k, join_c, Form, logical, joining, arithmetic, comparing, indexing, form_of, indexed, comp_two}
-use Rattle.labelled.specs.Expressions.{text_c, labelled_closed_call, last_arg, labelled_code_self, resolved, comp_leaf, comp_one, callee, before, comp, comp_args, comp_all, begin, labelled}
-use Rattle.model.specs.Reading.{read_expr}
-use Rattle.labelled.specs.Machine.{Hist, Regs, first_value}
-use Rattle.labelled.specs.Owning.{Own, freed_own}
+use Rattle.labelled.specs.Conditions.{on_load, on_x, is_bool, go_con, go_jump, not_k, not_s, labelled_code_not}
+use Rattle.labelled.specs.Operators.{numeral, left_of, late_of, Ops, right_first, left_if, left_first, ari_join, kcmp, cmp_join, neg_join, len_join, log₂, cat_x, cat_k, join_c, indexed}
+use Rattle.labelled.specs.Expressions.{text_c, labelled_closed_call, last_arg, labelled_code_self, resolved, comp_leaf, comp_one, callee, before}
+use Rattle.labelled.specs.Machine.{Hist, Regs}
+use Rattle.labelled.specs.Owning.{freed_own}
 use Rattle.labelled.specs.Settling.{next_free, next_nxt}
-use Rattle.labelled.specs.Branching.{go_if_nxt, go_if_free}
-use Rattle.labelled.specs.Good.{Good4, dv_good}
-use Rattle.labelled.specs.Operands.{next_op, any_op}
-use Rattle.labelled.specs.Binary.{left_op}
+use Rattle.labelled.specs.Good.{Good4}
+use Rattle.labelled.specs.Operands.{any_op}
 use Rattle.labelled.specs.Calls.{self_keeps}
-use Rattle.labelled.specs.Faithful.{next_arg_l}
-use Rattle.labelled.specs.Locals.{finds}
-use Rattle.labelled.specs.Shape.{silent, blank, each, quiet, comp_quiet, comp_shaped}
-use Rattle.labelled.specs.Sound.{OkK, Ok, OkRk, OkV, OkX, OkCon, OkK4, rk_grow, k4_grow, To, then_to, same_to, free_to, add_to, flush_to, push_to, jump_to, relabel_to, strip_to, here_to, d2r_to, next_to, any_to, Makes, Makes4, MakesRk, fresh_makes, dv_makes, lift_makes, near_ok, rk_makes}
+use Rattle.labelled.specs.Shape.{blank, each, quiet}
+use Rattle.labelled.specs.Sound.{OkK, OkRk, OkV, OkX, OkCon, OkK4, rk_grow, k4_grow, To, then_to, same_to, free_to, add_to, flush_to, push_to, jump_to, relabel_to, strip_to, d2r_to, next_to, any_to, Makes, Makes4, MakesRk, fresh_makes, dv_makes, lift_makes, near_ok, rk_makes}
 
 -- ---- conditions
 
@@ -70,16 +65,12 @@ go_con_to false b c v m s o = same_to s
 go_con_to true true c v m s o = jump_to m s
 go_con_to true false c v m s o = onload_to c (kc v) m s o
 
-go_jump_to : (c : Bool) (k : K4) (m : ℕ) (s : St) → OkK4 s.tab k → To s (go_jump c k m s)
+pub go_jump_to : (c : Bool) (k : K4) (m : ℕ) (s : St) → OkK4 s.tab k → To s (go_jump c k m s)
 unfolding go_jump
 go_jump_to c (kc v) m s o = go_con_to (agrees (is_true (value_of v)) c) (is_bool v) c v m s o
 go_jump_to c (kr u r) m s o = let s₁ = push (br (tset r c) (lbl m)) s in then_to s s₁ _ (push_to (br (tset r c) (lbl m)) s tt) (free_to s₁ _ s₁.nxt)
 go_jump_to c (kx x) m s o = on_x_to c x m s o
 go_jump_to c (kj p d x y) m s o = push_to (br (cmp p (agrees d c) x y) (lbl m)) s o
-
-go_to : (c : Bool) (p : Par4) → OkK4 p.st.tab p.de.k4 → To p.st (go_if c p)
-unfolding go_if
-go_to c p o = let s₁ = go_jump c p.de.k4 (lab c p.de) p.st in then_to p.st s₁ _ (go_jump_to c p.de.k4 (lab c p.de) p.st o) (here_to (lab (not c) p.de) s₁)
 
 not_makes₁ : (k : K4) (s : St) → OkK4 s.tab k → To s (not_s k s) × OkK4 (not_s k s).tab (not_k k s.free)
 unfolding not_s flush d2r push
@@ -112,15 +103,15 @@ abbrev OkLeft : Option ℕ → List Constant → Rk → Type 0
 OkLeft none t x = OkRk t x
 OkLeft (some n) t x = Unit {0}
 
-left_grow : (n : Option ℕ) (t u : List Constant) (x : Rk) → Grows t u → OkLeft n t x → OkLeft n u x
+pub left_grow : (n : Option ℕ) (t u : List Constant) (x : Rk) → Grows t u → OkLeft n t x → OkLeft n u x
 left_grow none t u x g o = rk_grow t u g x o
 left_grow (some n) t u x g o = tt
 
-record MakesLeft (s : St) (n : Option ℕ) (q : RkS) : Type 0 where
-  way : To s q.st
-  left_ok : OkLeft n q.st.tab q.rkv
+pub record MakesLeft (s : St) (n : Option ℕ) (q : RkS) : Type 0 where
+  pub way : To s q.st
+  pub left_ok : OkLeft n q.st.tab q.rkv
 
-left_makes : (n : Option ℕ) (p : Par4) → OkK4 p.st.tab p.de.k4 → MakesLeft p.st n (left_of n p)
+pub left_makes : (n : Option ℕ) (p : Par4) → OkK4 p.st.tab p.de.k4 → MakesLeft p.st n (left_of n p)
 left_makes none p o = let m = rk_makes p o in record { way = m.way; left_ok = m.rk_ok }
 left_makes (some n) p o = record { way = same_to p.st; left_ok = tt }
 
@@ -153,7 +144,7 @@ left_first_lem (some n) x p l w o = go (is_near (knumber n) p.st.tab) refl
         record { way = then_to p.st (add_k (knumber n) p.st) _ (add_to (knumber n) p.st) m.way; lft_ok = m.lft_ok; rgt_ok = m.rgt_ok }
     go false e = right_first_lem (some n) x p tt o
 
-waiting : (n : Option ℕ) (p : Par4) (k : ℕ) → n ≡ some k → (left_of n p).rkv ≡ con (number k)
+pub waiting : (n : Option ℕ) (p : Par4) (k : ℕ) → n ≡ some k → (left_of n p).rkv ≡ con (number k)
 waiting none p k e = absurd (let z : ◌≡◌ {A = ℕ} 0 1 = cc in omega nat)
 waiting (some n) p k e = ap (λ o. con (number (or_zero o))) e
   where
@@ -170,12 +161,12 @@ word_makes : (k : K4) (f : ℕ) (s u : St) → To s u → OkK4 u.tab k → Makes
 unfolding flush
 word_makes k f s u a o = fresh_makes (kd k) f s (flush u) (then_to s u (flush u) a (flush_to u)) o
 
-ari_makes : (z : Fold) (o : Arith) (f : ℕ) (n : Option ℕ) (x : RkS) (s : St) (p : Par4) → OkLeft n p.st.tab x.rkv → Makes4 s p → Makes s (ari_join z o f n x p)
+pub ari_makes : (z : Fold) (o : Arith) (f : ℕ) (n : Option ℕ) (x : RkS) (s : St) (p : Par4) → OkLeft n p.st.tab x.rkv → Makes4 s p → Makes s (ari_join z o f n x p)
 unfolding ari_join
 ari_makes (Folded z) o f n x s p l m = fresh_makes _ f s p.st m.way tt
 ari_makes Kept o f n x s p l m = let r = right_first_lem n x p l m.kind_ok in word_makes _ f s (right_first n x p).st (then_to s p.st _ m.way r.way) (r.lft_ok, r.rgt_ok)
 
-cmp_makes : (o : StepKind) (c w : Bool) (f : ℕ) (n : Option ℕ) (x : RkS) (s : St) (p : Par4) → OkLeft n p.st.tab x.rkv → ((k : ℕ) → n ≡ some k → x.rkv ≡ con (number k)) → Makes4 s p → Makes s (cmp_join o c w f n x p)
+pub cmp_makes : (o : StepKind) (c w : Bool) (f : ℕ) (n : Option ℕ) (x : RkS) (s : St) (p : Par4) → OkLeft n p.st.tab x.rkv → ((k : ℕ) → n ≡ some k → x.rkv ≡ con (number k)) → Makes4 s p → Makes s (cmp_join o c w f n x p)
 unfolding cmp_join
 cmp_makes o c w f n x s p l v m = let r = left_first_lem n x p l v m.kind_ok in
     word_makes _ f s (left_first n x p).st (then_to s p.st _ m.way r.way) (cmp_ok w o c (left_first n x p).st.tab (left_first n x p).lft (left_first n x p).rgt r.lft_ok r.rgt_ok)
@@ -192,7 +183,7 @@ len_makes : (f : ℕ) (s : St) (p : Par4) → Makes4 s p → Makes s (len_join f
 unfolding len_join
 len_makes f s p m = any_word (len (anyreg p).rgn) f s p m tt
 
-next_makes : (s : St) (p : Par4) → Makes4 s p → To s (nextreg p)
+pub next_makes : (s : St) (p : Par4) → Makes4 s p → To s (nextreg p)
 next_makes s p m = then_to s p.st _ m.way (next_to p m.kind_ok)
 
 cat_next : (r : ℕ) (s : St) (p : Par4) → Makes4 s p → Makes s (fresh (kd (kx (cat r 1))) r (flush (nextreg p)))
@@ -219,20 +210,20 @@ cat_k_makes false (kr u k) r s p m = cat_next r s p m
 cat_k_makes false (kx x) r s p m = cat_x_makes x r s p m
 cat_k_makes false (kj o c x y) r s p m = cat_next r s p m
 
-join_makes : (r : ℕ) (s : St) (p : Par4) → Makes4 s p → Makes s (join_c r p)
+pub join_makes : (r : ℕ) (s : St) (p : Par4) → Makes4 s p → Makes s (join_c r p)
 unfolding join_c
 join_makes r s p m = cat_k_makes (hit false p.de.tl p.de.fl p.st.code) p.de.k4 r s p m
 
-log_makes : (c : Bool) (l : ℕ) (s : St) (p : Par4) → Makes4 s p → Makes4 s (log₂ c l p)
+pub log_makes : (c : Bool) (l : ℕ) (s : St) (p : Par4) → Makes4 s p → Makes4 s (log₂ c l p)
 unfolding log₂ relabel
 log_makes c l s p m = record { way = then_to s p.st _ m.way (relabel_to l (lab c p.de) p.st); kind_ok = m.kind_ok }
 
 -- discharged, from an earlier state
-from_makes : (s u : St) (p : Pair) → To s u → Makes u p → Makes4 s (dv p)
+pub from_makes : (s u : St) (p : Pair) → To s u → Makes u p → Makes4 s (dv p)
 from_makes s u p a m = let d = dv_makes u p m in record { way = then_to s u _ a d.way; kind_ok = d.kind_ok }
 
 -- an index read, with the key behind the register of the table
-index_makes : (f r : ℕ) (s u : St) (p : Pair) → To s u → Makes u p → Makes s (indexed f r (exp2rk (dv p)))
+pub index_makes : (f r : ℕ) (s u : St) (p : Pair) → To s u → Makes u p → Makes s (indexed f r (exp2rk (dv p)))
 index_makes f r s u p a m =
     let d = from_makes s u p a m in
     let y = rk_makes (dv p) d.kind_ok in
@@ -243,10 +234,10 @@ index_makes f r s u p a m =
 text_makes : (t : List ℕ) (s : St) → Makes s (text_c t s)
 text_makes t s = fresh_makes (kd (kc (ktext t))) s.free s (add_k (ktext t) s) (add_to (ktext t) s) (listed_include (ktext t) s.tab)
 
-call_makes : (b n : ℕ) (s u : St) → To s u → Makes s (labelled_closed_call b n u)
+pub call_makes : (b n : ℕ) (s u : St) → To s u → Makes s (labelled_closed_call b n u)
 call_makes b n s u a = fresh_makes (kcl (cfix b n)) (suc b) s (flush u) (then_to s u (flush u) a (flush_to u)) tt
 
-last_makes : (b n : ℕ) (k : K) (s : St) (p : Pair) → p.de.kind ≡ k → ((t : CT) → k ≡ kcl t → cbase t ≡ suc (n + b)) → Makes s p → Makes s (last_arg b n k p)
+pub last_makes : (b n : ℕ) (k : K) (s : St) (p : Pair) → p.de.kind ≡ k → ((t : CT) → k ≡ kcl t → cbase t ≡ suc (n + b)) → Makes s p → Makes s (last_arg b n k p)
 unfolding last_arg
 last_makes b n (kd k) s p e base m = call_makes b (suc n) s (nextreg (dv p)) (next_makes s (dv p) (dv_makes s p m))
 last_makes b n (kl r) s p e base m = call_makes b (suc n) s (nextreg (dv p)) (next_makes s (dv p) (dv_makes s p m))
@@ -271,7 +262,7 @@ module _ (chunk : List ℕ) (names : List Text) where
   name_makes n none s = fresh_makes (kg n) s.free s (add_k (ktext n) s) (add_to (ktext n) s) (listed_include (ktext n) s.tab)
   name_makes n (some r) s = fresh_makes (kl r) s.free s s (same_to s) tt
 
-  leaf_makes : (l : Leaf) (s : St) → Makes s (comp_leaf chunk names l s)
+  pub leaf_makes : (l : Leaf) (s : St) → Makes s (comp_leaf chunk names l s)
   unfolding comp_leaf
   leaf_makes leaf.Nil s = fresh_makes _ s.free s s (same_to s) tt
   leaf_makes leaf.True s = fresh_makes _ s.free s s (same_to s) tt
@@ -281,7 +272,7 @@ module _ (chunk : List ℕ) (names : List Text) where
   leaf_makes leaf.VarArg s = fresh_makes kva s.free s (flush s) (flush_to s) tt
   leaf_makes (leaf.Name t) s = name_makes (bytes_of chunk t) (search_local chunk (bytes_of chunk t) names 0) s
 
-  one_makes : (o : One) (f : ℕ) (s : St) (p : Par4) → Makes4 s p → Makes s (comp_one chunk names o f p)
+  pub one_makes : (o : One) (f : ℕ) (s : St) (p : Par4) → Makes4 s p → Makes s (comp_one chunk names o f p)
   unfolding comp_one
   one_makes (one_of_lem.Unary un.Neg) f s p m = neg_makes (folds arith.Unm (numeral p) (numeral p)) f s p m
   one_makes (one_of_lem.Unary un.Not) f s p m = lift_makes s (labelled_code_not p) (not_makes s p m)
@@ -289,53 +280,23 @@ module _ (chunk : List ℕ) (names : List Text) where
   one_makes (one_of_lem.Field t) f s p m = index_makes f (anyreg p).rgn s (anyreg p).st (text_c (bytes_of chunk t) (anyreg p).st) (then_to s p.st _ m.way (any_to p m.kind_ok)) (text_makes (bytes_of chunk t) (anyreg p).st)
   one_makes one_of_lem.Paren f s p m = lift_makes s p m
 
-  callee_makes : (c : Many) (f : ℕ) (s : St) (p : Par4) → Makes4 s p → To s (callee chunk names c f p)
+  pub callee_makes : (c : Many) (f : ℕ) (s : St) (p : Par4) → Makes4 s p → To s (callee chunk names c f p)
   unfolding callee
   callee_makes many.Call f s p m = next_makes s p m
   callee_makes (many.MethodCall t) f s p m = then_to s p.st _ m.way (then_to p.st (anyreg p).st _ (any_to p m.kind_ok) (self_makes (bytes_of chunk t) (anyreg p) f))
 
-  -- the right operand is lowered where there are labels, and above the locals
-  abbrev Right : (St → Pair) → Type 0
-  Right right = (u : St) → 1 ≤ u.nxt → length names ≤ u.free → Makes u (right u)
-
   module _ (s : St) (p : Par4) (D : Regs → Hist → Taken Value) (l : 1 ≤ s.nxt) (nb : length names ≤ s.free) (m : Makes4 s p) (g : Good4 (quiet chunk names) D s.free s p) where
-    na : length (blank chunk names) ≤ s.free
+    pub na : length (blank chunk names) ≤ s.free
     na = omega (nat, nb, each chunk names)
 
-    free_own : freed p.de.k4 p.st.free ≡ s.free
+    pub free_own : freed p.de.k4 p.st.free ≡ s.free
     free_own = freed_own (length (blank chunk names)) p.de.k4 s.free p.st.free g.own
 
-    from_any : To s (anyreg p).st
+    pub from_any : To s (anyreg p).st
     from_any = then_to s p.st _ m.way (any_to p m.kind_ok)
 
-    two_makes : (F : Form) (right : St → Pair) → Right right → Makes s (comp_two F s.free p right)
-    unfolding comp_two
-    two_makes (logical c) right r =
-        let u = go_if c p in
-        lift_makes s _ (log_makes c (lab c p.de) s (dv (right u)) (from_makes s u (right u) (then_to s p.st _ m.way (go_to c p m.kind_ok)) (r u (omega (nat, l, g.nx, go_if_nxt c p)) (omega (nat, nb, free_own, go_if_free c p)))))
-    two_makes joining right r =
-        let o = next_op (quiet chunk names) D s.free s p l na g in
-        join_makes s.free s (dv (right (nextreg p))) (from_makes s (nextreg p) (right (nextreg p)) (next_makes s p m) (r (nextreg p) (omega (nat, l, o.nx)) (omega (nat, nb, o.fr))))
-    two_makes (arithmetic o) right r =
-        let n = numeral p in let x = left_of n p in
-        let h = left_op (quiet chunk names) D s.free s p l na g in
-        let a = left_makes n p m.kind_ok in
-        let b = from_makes x.st x.st (right x.st) (same_to x.st) (r x.st (omega (nat, l, h.nx)) (omega (nat, nb, h.fr))) in
-        let q = dv (right x.st) in
-        ari_makes (folds o n (numeral q)) o s.free n x s q (left_grow n x.st.tab q.st.tab x.rkv b.way.grows a.left_ok) (record { way = then_to s x.st _ (then_to s p.st _ m.way a.way) b.way; kind_ok = b.kind_ok })
-    two_makes (comparing o c w) right r =
-        let n = numeral p in let x = left_of n p in
-        let h = left_op (quiet chunk names) D s.free s p l na g in
-        let a = left_makes n p m.kind_ok in
-        let b = from_makes x.st x.st (right x.st) (same_to x.st) (r x.st (omega (nat, l, h.nx)) (omega (nat, nb, h.fr))) in
-        let q = dv (right x.st) in
-        cmp_makes o c w s.free n x s q (left_grow n x.st.tab q.st.tab x.rkv b.way.grows a.left_ok) (waiting n p) (record { way = then_to s x.st _ (then_to s p.st _ m.way a.way) b.way; kind_ok = b.kind_ok })
-    two_makes indexing right r =
-        let o = any_op (quiet chunk names) D s.free s p l na g in
-        index_makes s.free (anyreg p).rgn s (anyreg p).st (right (anyreg p).st) from_any (r (anyreg p).st (omega (nat, l, o.nx)) (omega (nat, nb, o.fr)))
-
     -- the arguments begin behind the function, or behind the method and its object
-    callee_on : (c : Many) → (1 ≤ (callee chunk names c s.free p).nxt) × ((callee chunk names c s.free p).free ≡ suc (before chunk names c + s.free))
+    pub callee_on : (c : Many) → (1 ≤ (callee chunk names c s.free p).nxt) × ((callee chunk names c s.free p).free ≡ suc (before chunk names c + s.free))
     unfolding callee
     callee_on many.Call = (omega (nat, next_nxt p), next_free p ∙ ap suc (free_own ∙ sym (zero-add s.free)))
     callee_on (many.MethodCall t) =
@@ -343,52 +304,3 @@ module _ (chunk : List ℕ) (names : List Text) where
         let k = self_keeps (bytes_of chunk t) (anyreg p) s.free in
         let e : 2 + s.free ≡ suc (1 + s.free) = omega nat in
         (omega (nat, l, o.nx, k.1), k.0 ∙ e)
-
-  -- an expression's descriptor, discharged, for the silent outside
-  quiet4 : (a : Expr) (s : St) (l : 1 ≤ s.nxt) (nb : length names ≤ s.free) → Good4 (quiet chunk names) (λ R h. first_value (read_expr silent chunk names (blank chunk names) [] a h)) s.free s (dv (comp chunk names a s))
-  quiet4 a s l nb = dv_good (quiet chunk names) _ s.free s (comp chunk names a s) (comp_quiet chunk names a s l nb)
-
-  -- a call that is the last argument has its function right behind the others
-  last_base : (a : Expr) (b n : ℕ) (s : St) → 1 ≤ s.nxt → length names ≤ b → s.free ≡ suc (n + b) → (t : CT) → (comp chunk names a s).de.kind ≡ kcl t → cbase t ≡ suc (n + b)
-  last_base a b n s l nb e t k = (subst (λ z. Own (length names) s.free z (comp chunk names a s).st.free) k (comp_shaped chunk names a s l (omega nat)).own).0 ∙ e
-
-  mutual
-    unfolding comp comp_args
-
-    pub comp_makes : (a : Expr) (s : St) → 1 ≤ s.nxt → length names ≤ s.free → Makes s (comp chunk names a s)
-    comp_makes (leaf_node _ x) s l nb = leaf_makes x s
-    comp_makes (one_node _ o a) s l nb = one_makes o s.free s (dv (comp chunk names a s)) (dv_makes s (comp chunk names a s) (comp_makes a s l nb))
-    comp_makes (two_node _ t a b) s l nb = two_makes s (dv (comp chunk names a s)) _ l nb (dv_makes s (comp chunk names a s) (comp_makes a s l nb)) (quiet4 a s l nb) (form_of t) (comp chunk names b) (λ u lu nu. comp_makes b u lu nu)
-    comp_makes (many_node _ m a es) s l nb =
-        let u = callee chunk names m s.free (dv (comp chunk names a s)) in
-        let d = dv_makes s (comp chunk names a s) (comp_makes a s l nb) in
-        let k = callee_on s (dv (comp chunk names a s)) _ l nb d (quiet4 a s l nb) m in
-        let r = args_makes es s.free (before chunk names m) u k.0 nb k.1 in
-        record { way = then_to s u _ (callee_makes m s.free s (dv (comp chunk names a s)) d) r.way; kind_ok = r.kind_ok }
-
-    pub args_makes : (es : Exprs) (b n : ℕ) (s : St) → 1 ≤ s.nxt → length names ≤ b → s.free ≡ suc (n + b) → Makes s (comp_args chunk names es b n s)
-    args_makes no_more b n s l nb e = call_makes b n s s (same_to s)
-    args_makes (more a no_more) b n s l nb e = last_makes b n (comp chunk names a s).de.kind s (comp chunk names a s) refl (last_base a b n s l nb e) (comp_makes a s l (omega nat))
-    args_makes (more a (more c es)) b n s l nb e =
-        let u = nextreg (dv (comp chunk names a s)) in
-        let k = next_arg_l (quiet chunk names) chunk names (blank chunk names) (finds silent chunk names (blank chunk names) [] (each chunk names)) _ b n s (comp chunk names a s) l (omega (nat, nb, each chunk names)) e (comp_quiet chunk names a s l (omega nat)) in
-        let r = args_makes (more c es) b (suc n) u k.0 nb k.1 in
-        record { way = then_to s u _ (next_makes s (dv (comp chunk names a s)) (dv_makes s (comp chunk names a s) (comp_makes a s l (omega nat)))) r.way; kind_ok = r.kind_ok }
-
-  pub all_makes : (es : Exprs) (s : St) → 1 ≤ s.nxt → length names ≤ s.free → To s (comp_all chunk names es s)
-  unfolding comp_all
-  all_makes no_more s l nb = same_to s
-  all_makes (more a es) s l nb =
-      let p = dv (comp chunk names a s) in
-      let d = dv_makes s (comp chunk names a s) (comp_makes a s l nb) in
-      then_to s (nextreg p) _ (next_makes s p d) (all_makes es (nextreg p) (omega (nat, next_nxt p)) (omega (nat, nb, next_free p, free_own s p _ l nb d (quiet4 a s l nb))))
-
-  -- THE CONSTANTS AND THE CALLS of the labelled code of all formulas
-  made : (fs : Exprs) → To (begin (length names)) (labelled chunk names fs)
-  made fs = let s = comp_all chunk names fs (begin (length names)) in then_to (begin (length names)) s (flush s) (all_makes fs (begin (length names)) (omega nat) (omega nat)) (flush_to s)
-
-  pub all_listed : (fs : Exprs) → Ok (labelled chunk names fs).tab (labelled chunk names fs).code
-  all_listed fs = (made fs).ok tt
-
-  pub all_once : (fs : Exprs) → Distinct (labelled chunk names fs).tab
-  all_once fs = (made fs).once distinct_empty

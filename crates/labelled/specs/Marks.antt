@@ -1,5 +1,6 @@
 -- Where a list of jumps is patched to here, the last word is no `LoadNil`: so the mark that is put there changes no word. For only a constant leaves the code as it was, and then its lists are new and empty;
 -- all else ends in a jump or in a mark.
+-- What rests on something that a must-fail edit breaks stands in proofs/Marks.antt.
 use Rattle.std.specs.Prelude.{ℕ, suc, ◌≤◌, Bool, not, ◌||◌, ◌&&◌, refl, List, [], ◌∷◌}
 use Rattle.std.proofs.Math.Bool.{true, false}
 use Rattle.std.proofs.Math.Path.{◌≡◌, subst}
@@ -17,7 +18,7 @@ use Rattle.ast.specs.declared.Leaf.{Leaf}
 use Rattle.ast.specs.declared.Leaf.TheVariants as leaf
 use Rattle.ast.specs.declared.One.{One}
 use Rattle.ast.specs.declared.One.TheVariants as one_of_lem
-use Rattle.chunk.specs.Ast.{Expr, leaf as leaf_node, one as one_node, two as two_node, many as many_node, Exprs, none as no_more, more}
+use Rattle.chunk.specs.Ast.{Exprs, none as no_more, more}
 use Rattle.model.specs.Values.{value_of, is_true, StepKind, folds}
 use Rattle.model.specs.Expressions.{search_local}
 use Rattle.model.specs.Running.{same as agrees}
@@ -26,10 +27,10 @@ use Rattle.labelled.specs.Machine.{pick}
 use Rattle.labelled.specs.Emission.{St, one, push, labelled_emit_jump, relabel, strip, hit, here_if, labelled_to_here}
 use Rattle.labelled.specs.Discharge.{K4, kc, kr, kx, kj, K, kd, kl, kg, ki, kcl, kva, Pair, Par4, RkS, lab, fresh, lift4, dv_k, dv_s, dv, nextreg, anyreg, exp2rk}
 use Rattle.labelled.specs.Conditions.{on_load, on_x, is_bool, go_con, go_jump, go_if, not_k, not_s, labelled_code_not}
-use Rattle.labelled.specs.Operators.{num_c, num_k, numeral, left_of, ari_join, cmp_join, neg_join, len_join, log₂, cat_x, cat_k, join_c, Form, logical, joining, arithmetic, comparing, indexing, form_of, indexed, comp_two}
-use Rattle.labelled.specs.Expressions.{text_c, labelled_closed_call, last_arg, resolved, comp_leaf, comp_one, callee, before, comp, comp_args}
+use Rattle.labelled.specs.Operators.{num_c, num_k, numeral, ari_join, cmp_join, neg_join, len_join, log₂, cat_x, cat_k, join_c, indexed}
+use Rattle.labelled.specs.Expressions.{text_c, labelled_closed_call, last_arg, resolved, comp_leaf, comp_one, comp, comp_args}
 use Rattle.labelled.specs.Firm.{true≢false}
-use Rattle.labelled.specs.Fresh.{Fresh, Under, under_none, On, New4, comp_new, dv_new, go_on, before_on}
+use Rattle.labelled.specs.Fresh.{Fresh, Under, under_none, On, New4}
 
 -- the last word is a `LoadNil`
 abbrev pub nil_last : Code → Bool
@@ -43,14 +44,14 @@ nil_last (pl (selfw a o k) ∷ c) = false
 nil_last (br d t ∷ c) = false
 
 -- no label gets its first jump, and the last word stays as it is; or the last word is no `LoadNil`
-data Quiet (c c' : Code) : Type 0 where
+pub data Quiet (c c' : Code) : Type 0 where
   still : ((ℓ : ℕ) → hit false ℓ ℓ c ≡ false → hit false ℓ ℓ c' ≡ false) → nil_last c' ≡ nil_last c → Quiet c c'
   topped : nil_last c' ≡ false → Quiet c c'
 
 same_quiet : (c : Code) → Quiet c c
 same_quiet c = still (λ ℓ h. h) refl
 
-then_quiet : (c d e : Code) → Quiet c d → Quiet d e → Quiet c e
+pub then_quiet : (c d e : Code) → Quiet c d → Quiet d e → Quiet c e
 then_quiet c d e q (topped t) = topped t
 then_quiet c d e (still f a) (still g b) = still (λ ℓ h. g ℓ (f ℓ h)) (b ∙ a)
 then_quiet c d e (topped t) (still g b) = topped (b ∙ t)
@@ -126,21 +127,21 @@ numeral_con₁ false (kr u r) v e = absurd (let z : ◌≡◌ {A = ℕ} 0 1 = cc
 numeral_con₁ false (kx x) v e = absurd (let z : ◌≡◌ {A = ℕ} 0 1 = cc in omega nat)
 numeral_con₁ false (kj o c x y) v e = absurd (let z : ◌≡◌ {A = ℕ} 0 1 = cc in omega nat)
 
-numeral_con : (p : Par4) (v : ℕ) → numeral p ≡ some v → p.de.k4 ≡ kc (knumber v)
+pub numeral_con : (p : Par4) (v : ℕ) → numeral p ≡ some v → p.de.k4 ≡ kc (knumber v)
 unfolding numeral
 numeral_con p v e = numeral_con₁ (hit false p.de.tl p.de.fl p.st.code) p.de.k4 v e
 
 -- what is lowered to a constant from the code c was quiet
-abbrev Con : Code → Pair → Type 0
+abbrev pub Con : Code → Pair → Type 0
 Con c p = (v : Constant) → p.de.kind ≡ kd (kc v) → Quiet c p.st.code
 
-abbrev Con4 : Code → Par4 → Type 0
+abbrev pub Con4 : Code → Par4 → Type 0
 Con4 c p = (v : Constant) → p.de.k4 ≡ kc v → Quiet c p.st.code
 
-dv_quiet : (c : Code) (p : Pair) → Con c p → Con4 c (dv p)
+pub dv_quiet : (c : Code) (p : Pair) → Con c p → Con4 c (dv p)
 dv_quiet c p q v e = let k = dv_con p.de.kind v e in subst (Quiet c) (sym (dv_code p.de.kind p.de.kind (kc v) p.st refl k)) (q v k)
 
-lift_quiet : (c : Code) (p : Par4) → Con4 c p → Con c (lift4 p)
+pub lift_quiet : (c : Code) (p : Par4) → Con4 c p → Con c (lift4 p)
 lift_quiet c p q v e = q v (un_kd e)
   where
     of_k : K → K4
@@ -195,14 +196,14 @@ here_quiet m s = go (hit false m m s.code)
     go true = topped refl
     go false = same_quiet s.code
 
-jump_quiet : (b : Code) (c : Bool) (k : K4) (m : ℕ) (s : St) → ((v : Constant) → k ≡ kc v → Quiet b s.code) → Quiet b (go_jump c k m s).code
+pub jump_quiet : (b : Code) (c : Bool) (k : K4) (m : ℕ) (s : St) → ((v : Constant) → k ≡ kc v → Quiet b s.code) → Quiet b (go_jump c k m s).code
 jump_quiet b c k m s q = go (jumped c k m s)
   where
     go : Jumped c k m s → Quiet b (go_jump c k m s).code
     go (none_emitted v e z) = subst (λ u. Quiet b u.code) (sym z) (q v e)
     go (emitted t) = topped t
 
-go_quiet : (b : Code) (c : Bool) (p : Par4) → Con4 b p → Quiet b (go_if c p).code
+pub go_quiet : (b : Code) (c : Bool) (p : Par4) → Con4 b p → Quiet b (go_if c p).code
 unfolding go_if
 go_quiet b c p q = let u = go_jump c p.de.k4 (lab c p.de) p.st in then_quiet b u.code _ (jump_quiet b c p.de.k4 (lab c p.de) p.st q) (here_quiet (lab (not c) p.de) u)
 
@@ -233,7 +234,7 @@ neg_quiet (some m) f b p q v e = go (folds arith.Unm (some m) (some m)) e
     go Kept e = x_never _ v e
     go (Folded z) e = q m refl
 
-ari_quiet : (o : Arith) (n m : Option ℕ) (f : ℕ) (x : RkS) (b : Code) (p : Par4) → ((v u : ℕ) → n ≡ some v → m ≡ some u → Quiet b p.st.code) → Con b (ari_join (folds o n m) o f n x p)
+pub ari_quiet : (o : Arith) (n m : Option ℕ) (f : ℕ) (x : RkS) (b : Code) (p : Par4) → ((v u : ℕ) → n ≡ some v → m ≡ some u → Quiet b p.st.code) → Con b (ari_join (folds o n m) o f n x p)
 unfolding ari_join fresh
 ari_quiet o none none f x b p q v e = x_never _ v e
 ari_quiet o none (some u) f x b p q v e = x_never _ v e
@@ -244,7 +245,7 @@ ari_quiet o (some w) (some u) f x b p q v e = go (folds o (some w) (some u)) e
     go Kept e = x_never _ v e
     go (Folded z) e = q w u refl refl
 
-cmp_never : (w : Bool) (k : StepKind) (c : Bool) (f : ℕ) (n : Option ℕ) (x : RkS) (b : Code) (p : Par4) → Con b (cmp_join k c w f n x p)
+pub cmp_never : (w : Bool) (k : StepKind) (c : Bool) (f : ℕ) (n : Option ℕ) (x : RkS) (b : Code) (p : Par4) → Con b (cmp_join k c w f n x p)
 unfolding cmp_join fresh
 cmp_never true k c f n x b p v e = absurd (let z : ◌≡◌ {A = ℕ} 0 1 = cc in omega nat)
 cmp_never false k c f n x b p v e = absurd (let z : ◌≡◌ {A = ℕ} 0 1 = cc in omega nat)
@@ -270,41 +271,25 @@ cat_k_never false (kr u k) r b p v e = x_never _ v e
 cat_k_never false (kx x) r b p v e = cat_x_never x r b p v e
 cat_k_never false (kj o c x y) r b p v e = x_never _ v e
 
-join_never : (r : ℕ) (b : Code) (p : Par4) → Con b (join_c r p)
+pub join_never : (r : ℕ) (b : Code) (p : Par4) → Con b (join_c r p)
 unfolding join_c
 join_never r b p v e = cat_k_never (hit false p.de.tl p.de.fl p.st.code) p.de.k4 r b p v e
 
-index_never : (f r : ℕ) (b : Code) (y : RkS) → Con b (indexed f r y)
+pub index_never : (f r : ℕ) (b : Code) (y : RkS) → Con b (indexed f r y)
 unfolding fresh
 index_never f r b y v e = absurd (let z : ◌≡◌ {A = ℕ} 0 1 = cc in omega nat)
 
 -- ---- the trees
 
 -- an edit of the left operand's list, when the right one is a constant
-log_quiet : (c : Bool) (m : ℕ) (b : Code) (p : Par4) → hit false m m b ≡ false → Con4 b p → Con4 b (log₂ c m p)
+pub log_quiet : (c : Bool) (m : ℕ) (b : Code) (p : Par4) → hit false m m b ≡ false → Con4 b p → Con4 b (log₂ c m p)
 unfolding log₂ relabel
 log_quiet c m b p h q v e = edit_quiet m (re (lab c p.de) false) b p.st.code h (q v e)
 
 module _ (n : ℕ) (pos : 1 ≤ n) (b : Code) (u : Under n b) where
-  new_none : (c : Bool) (p : Par4) → New4 n p → hit false (lab c p.de) (lab c p.de) b ≡ false
+  pub new_none : (c : Bool) (p : Par4) → New4 n p → hit false (lab c p.de) (lab c p.de) b ≡ false
   new_none true p o = under_none n p.de.tl o.tl_new b u
   new_none false p o = under_none n p.de.fl o.fl_new b u
-
-  two_quiet : (F : Form) (f : ℕ) (p : Par4) (right : St → Pair) → New4 n p → Con4 b p → ((s : St) → On n s → Con s.code (right s)) → Con b (comp_two F f p right)
-  unfolding comp_two
-  two_quiet (logical c) f p right o q r =
-      let s = go_if c p in
-      lift_quiet b (log₂ c (lab c p.de) (dv (right s))) (log_quiet c (lab c p.de) b (dv (right s)) (new_none c p o) (λ v e. then_quiet b s.code _ (go_quiet b c p q) (dv_quiet s.code (right s) (r s (go_on n pos c p o)) v e)))
-  two_quiet joining f p right o q r = join_never f b (dv (right (nextreg p)))
-  two_quiet (arithmetic a) f p right o q r = ari_quiet a (numeral p) (numeral (dv (right (left_of (numeral p) p).st))) f (left_of (numeral p) p) b (dv (right (left_of (numeral p) p).st)) (λ v w e g. both (numeral p) v e w g)
-    where
-      both : (m : Option ℕ) (v : ℕ) → numeral p ≡ some v → (w : ℕ) → numeral (dv (right (left_of (numeral p) p).st)) ≡ some w → Quiet b (dv (right (left_of (numeral p) p).st)).st.code
-      both m v e w g =
-          let s = (left_of (numeral p) p).st in
-          let first : Quiet b s.code = subst (λ z. Quiet b (left_of z p).st.code) (sym e) (q (knumber v) (numeral_con p v e)) in
-          then_quiet b s.code _ first (dv_quiet s.code (right s) (r s (before_on n pos (numeral p) p o)) (knumber w) (numeral_con (dv (right s)) w g))
-  two_quiet (comparing k c w) f p right o q r = cmp_never w k c f (numeral p) (left_of (numeral p) p) b (dv (right (left_of (numeral p) p).st))
-  two_quiet indexing f p right o q r = index_never f (anyreg p).rgn b (exp2rk (dv (right (anyreg p).st)))
 
 call_never : (b m : ℕ) (c : Code) (s : St) → Con c (labelled_closed_call b m s)
 unfolding fresh
@@ -320,7 +305,7 @@ last_never b m (kcl t) c p v e = absurd (let z : ◌≡◌ {A = ℕ} 0 1 = cc in
 last_never b m kva c p v e = absurd (let z : ◌≡◌ {A = ℕ} 0 1 = cc in omega nat)
 
 module _ (chunk : List ℕ) (names : List Text) where
-  args_never : (es : Exprs) (b m : ℕ) (c : Code) (s : St) → Con c (comp_args chunk names es b m s)
+  pub args_never : (es : Exprs) (b m : ℕ) (c : Code) (s : St) → Con c (comp_args chunk names es b m s)
   unfolding comp_args
   args_never no_more b m c s = call_never b m c s
   args_never (more a no_more) b m c s = last_never b m (comp chunk names a s).de.kind c (comp chunk names a s)
@@ -331,7 +316,7 @@ module _ (chunk : List ℕ) (names : List Text) where
   name_never name none s v e = absurd (let z : ◌≡◌ {A = ℕ} 0 1 = cc in omega nat)
   name_never name (some r) s v e = absurd (let z : ◌≡◌ {A = ℕ} 0 1 = cc in omega nat)
 
-  leaf_quiet : (l : Leaf) (s : St) → Con s.code (comp_leaf chunk names l s)
+  pub leaf_quiet : (l : Leaf) (s : St) → Con s.code (comp_leaf chunk names l s)
   unfolding comp_leaf fresh
   leaf_quiet leaf.Nil s v e = same_quiet s.code
   leaf_quiet leaf.True s v e = same_quiet s.code
@@ -341,7 +326,7 @@ module _ (chunk : List ℕ) (names : List Text) where
   leaf_quiet leaf.VarArg s v e = absurd (let z : ◌≡◌ {A = ℕ} 0 1 = cc in omega nat)
   leaf_quiet (leaf.Name t) s v e = name_never (bytes_of chunk t) (search_local chunk (bytes_of chunk t) names 0) s v e
 
-  one_quiet : (x : One) (f : ℕ) (b : Code) (p : Par4) → hit false p.de.tl p.de.tl b ≡ false → hit false p.de.fl p.de.fl b ≡ false → Con4 b p → Con b (comp_one chunk names x f p)
+  pub one_quiet : (x : One) (f : ℕ) (b : Code) (p : Par4) → hit false p.de.tl p.de.tl b ≡ false → hit false p.de.fl p.de.fl b ≡ false → Con4 b p → Con b (comp_one chunk names x f p)
   unfolding comp_one len_join fresh
   one_quiet (one_of_lem.Unary un.Neg) f b p t l q = neg_quiet (numeral p) f b p (λ v e. q (knumber v) (numeral_con p v e))
   one_quiet (one_of_lem.Unary un.Not) f b p t l q = lift_quiet b (labelled_code_not p) (not_quiet b p t l q)
@@ -350,30 +335,5 @@ module _ (chunk : List ℕ) (names : List Text) where
   one_quiet one_of_lem.Paren f b p t l q = lift_quiet b p q
 
   -- from a state whose labels are old
-  on_self : (s : St) → Fresh s → On s.nxt s
+  pub on_self : (s : St) → Fresh s → On s.nxt s
   on_self s h = record { up = omega nat; old = h }
-
-  new_at : (a : Expr) (s : St) → 1 ≤ s.nxt → Fresh s → New4 s.nxt (dv (comp chunk names a s))
-  new_at a s l h = dv_new s.nxt l (comp chunk names a s) (comp_new chunk names s.nxt l a s (on_self s h))
-
-  con_quiet : (a : Expr) (s : St) → 1 ≤ s.nxt → Fresh s → Con s.code (comp chunk names a s)
-  unfolding comp
-  con_quiet (leaf_node _ x) s l h = leaf_quiet x s
-  con_quiet (one_node _ x a) s l h =
-      let p = dv (comp chunk names a s) in let o = new_at a s l h in
-      one_quiet x s.free s.code p (new_none s.nxt l s.code h true p o) (new_none s.nxt l s.code h false p o) (dv_quiet s.code (comp chunk names a s) (con_quiet a s l h))
-  con_quiet (two_node _ t a b) s l h = two_quiet s.nxt l s.code h (form_of t) s.free (dv (comp chunk names a s)) (comp chunk names b) (new_at a s l h) (dv_quiet s.code (comp chunk names a s) (con_quiet a s l h))
-      (λ u o. con_quiet b u (omega (nat, o.up)) o.old)
-  con_quiet (many_node _ m a es) s l h = args_never es s.free (before chunk names m) s.code (callee chunk names m s.free (dv (comp chunk names a s)))
-
-  -- MARKS: where goiftrue or goiffalse patches a list that has jumps to here, the last word is no `LoadNil`
-  pub marks_plain : (a : Expr) (s : St) → 1 ≤ s.nxt → Fresh s → (c : Bool) (p : Par4) → p ≡ dv (comp chunk names a s) → (m : ℕ) → m ≡ lab (not c) p.de → (u : St) → u ≡ go_jump c p.de.k4 (lab c p.de) p.st →
-      hit false m m u.code ≡ true → nil_last u.code ≡ false
-  marks_plain a s l h c p ep m em u eu e = go (jump_quiet s.code c p.de.k4 (lab c p.de) p.st (subst (Con4 s.code) (sym ep) (dv_quiet s.code (comp chunk names a s) (con_quiet a s l h))))
-    where
-      unhit : hit false m m s.code ≡ false
-      unhit = rw em (new_none s.nxt l s.code h (not c) p (subst (New4 s.nxt) (sym ep) (new_at a s l h)))
-
-      go : Quiet s.code (go_jump c p.de.k4 (lab c p.de) p.st).code → nil_last u.code ≡ false
-      go (topped t) = ap (λ z. nil_last z.code) eu ∙ t
-      go (still f q) = absurd (true≢false (sym e ∙ ap (λ z. hit false m m z.code) eu ∙ f m unhit))

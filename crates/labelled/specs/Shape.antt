@@ -1,20 +1,17 @@
 -- What holds of the lowering of every expression whatever is run: the registers that its descriptor owns, and labels that are new and different. Read off the theorem, for a silent outside and locals that are all nil,
 -- since it speaks of every outside.
+-- What rests on something that a must-fail edit breaks stands in proofs/Shape.antt.
 use Rattle.std.specs.Prelude.{ℕ, ◌≤◌, ◌<◌, false, ◌≡◌, List, [], length, replicate}
-use Rattle.std.proofs.Common.{subst, arith as nat}
+use Rattle.std.proofs.Common.{subst}
 use Rattle.std.proofs.lemmas.List.{length-replicate}
 use Rattle.cursor.specs.declared.Text.{Text}
-use Rattle.chunk.specs.Ast.{Expr}
 use Rattle.model.specs.Values.{Value, nil, World, Taken}
-use Rattle.model.specs.Reading.{read_expr}
 use Rattle.labelled.specs.Machine.{Hist, Regs, Setting}
 use Rattle.labelled.specs.Emission.{St}
 use Rattle.labelled.specs.Discharge.{Pair}
 use Rattle.labelled.specs.Owning.{Own}
-use Rattle.labelled.specs.Expressions.{comp}
 use Rattle.labelled.specs.Good.{Good}
-use Rattle.labelled.specs.Faithful.{comp_good}
-use Rattle.labelled.specs.Locals.{setting_of, finds}
+use Rattle.labelled.specs.Locals.{setting_of}
 
 -- f registers are taken before, and `active` of them hold locals
 pub record Shaped (active f : ℕ) (s : St) (p : Pair) : Type 0 where
@@ -37,11 +34,5 @@ module _ (chunk : List ℕ) (names : List Text) where
   abbrev pub quiet : Setting
   quiet = setting_of silent blank []
 
-  shape : (D : Regs → Hist → Taken (List Value)) (f : ℕ) (s : St) (p : Pair) → Good quiet D f s p → Shaped (length names) f s p
+  pub shape : (D : Regs → Hist → Taken (List Value)) (f : ℕ) (s : St) (p : Pair) → Good quiet D f s p → Shaped (length names) f s p
   shape D f s p g = subst (λ n. Shaped n f s p) each (record { own = g.own; later = g.nx; true_new = (g.tlo, g.thi); false_new = (g.flo, g.fhi); differ = g.ft })
-
-  pub comp_quiet : (a : Expr) (s : St) → 1 ≤ s.nxt → length names ≤ s.free → Good quiet (λ R h. read_expr silent chunk names blank [] a h) s.free s (comp chunk names a s)
-  comp_quiet a s l na = comp_good quiet chunk names blank (finds silent chunk names blank [] each) a s l (omega (nat, each))
-
-  pub comp_shaped : (a : Expr) (s : St) → 1 ≤ s.nxt → length names ≤ s.free → Shaped (length names) s.free s (comp chunk names a s)
-  comp_shaped a s l na = shape _ s.free s (comp chunk names a s) (comp_quiet a s l na)

@@ -7,7 +7,7 @@ use Rattle.model.specs.Steps.{Buffers}
 use Rattle.model.specs.Claims.{RunsAsRead, Padded, Faithful, Lowers, Bytes}
 use Rattle.model.specs.Lowering.{Sizes, Out, out, lowered}
 use Rattle.faithful.specs.Faithful.{faithful}
-use Rattle.padding.specs.Padded.{padded}
+use Rattle.padding.proofs.Padded.{padded}
 
 module _ (z : Sizes) (chunk : List ℕ) (bytes : Bytes chunk) where
   pub entry_padded : {r : Lowered} {m : Buffers} {s : List ℕ} → lowered z chunk ≡ out r m s → Padded z chunk r m s

@@ -1,11 +1,10 @@
 -- The form refuses with refusals of the form only. By the cases of reading. Assumes nothing.
-use Prim.Native.Nat.{ℕ, zero, suc, ◌+◌, ◌-◌, ◌/◌, ◌%◌}
-use Rattle.std.specs.Prelude.{Bool, true, false, ◌≡◌, List, length, eqb, leb}
+-- What rests on something that a must-fail edit breaks stands in proofs/Early.antt.
+use Prim.Native.Nat.{ℕ, zero, suc, ◌+◌, ◌/◌, ◌%◌}
+use Rattle.std.specs.Prelude.{Bool, ◌≡◌, List, length, eqb}
 use Rattle.std.proofs.Math.Path.{refl}
-use Rattle.std.proofs.Common.{subst}
 use Rattle.refusals.specs.Stage.{stage_of, form}
 use Rattle.refusals.specs.declared.Refusal.{Refusal}
-use Rattle.refusals.specs.declared.Refusal.TheVariants as refusal
 use Rattle.cursor.specs.Fields.{byte_at, line_at, bits_at, text_at, end_of}
 use Rattle.ast.specs.Kinds.{kind_of, map_of}
 use Rattle.ast.specs.Operators.{bin_op_of, un_op_of}
@@ -13,49 +12,47 @@ use Rattle.ast.specs.declared.Kind.{Kind}
 use Rattle.ast.specs.declared.Kind.TheVariants.{Nil, True, False, Number, Str, VarArg, Name, Binary, Unary, Index, Field, MethodCall, Call, Paren}
 use Rattle.ast.specs.declared.Head.{Head}
 use Rattle.ast.specs.declared.Head.TheVariants as head
-use Rattle.nodes.specs.Nodes.{fields_at, front_at, with_front, node_at}
+use Rattle.nodes.specs.Nodes.{fields_at, front_at}
 use Rattle.nodes.specs.Reads.{on_byte, on_line, on_bits, on_text, on_kind, on_bin, on_un, on_require, on_test}
 use Rattle.nodes.specs.declared.node.Front.{Front}
 use Rattle.nodes.specs.declared.node.Front.TheVariants as front
 use Rattle.nodes.specs.declared.node.NodeRead.{NodeRead}
 use Rattle.nodes.specs.declared.node.NodeRead.TheVariants as node
 use Rattle.chunk.specs.Ast.{Span, Expr, Exprs}
-use Rattle.chunk.specs.Headers.{max_locals, names_at, skipped, with_skipped, formulas_at, header_at}
-use Rattle.chunk.specs.Form.{max_length, max_nesting, Parsed, parsed, refused as unparsed, with_parsed, exprs_at, rest, with_node, expr_at, Formed, formed, unformed, with_header, with_exprs, ended, form_of}
+use Rattle.chunk.specs.Headers.{formulas_at}
+use Rattle.chunk.specs.Form.{Parsed, parsed, refused as unparsed, with_parsed, exprs_at, rest, Formed, formed, unformed, ended}
 use Rattle.chunk.specs.declared.header.Header.{Header}
 use Rattle.chunk.specs.declared.header.HeaderRead.{HeaderRead}
 use Rattle.chunk.specs.declared.header.HeaderRead.TheVariants as header
-use Rattle.chunk.specs.declared.header.Skipped.{Skipped}
-use Rattle.chunk.specs.declared.header.Skipped.TheVariants as skip
 
 -- what each reader refuses with is of the form
 abbrev OfForm : Refusal → Type 0
 OfForm x = stage_of x ≡ form
 
-abbrev OfFormNode : NodeRead → Type 0
+abbrev pub OfFormNode : NodeRead → Type 0
 OfFormNode (node.Node n) = Unit {0}
 OfFormNode (node.Refused k) = OfForm k
 
-abbrev OfFormFront : Front → Type 0
+abbrev pub OfFormFront : Front → Type 0
 OfFormFront (front.Front k at line) = Unit {0}
 OfFormFront (front.Refused k) = OfForm k
 
-abbrev OfFormHeader : HeaderRead → Type 0
+abbrev pub OfFormHeader : HeaderRead → Type 0
 OfFormHeader (header.Header h) = Unit {0}
 OfFormHeader (header.Refused k) = OfForm k
 
-abbrev OfFormParsed : {A : Type 0} → Parsed A → Type 0
+abbrev pub OfFormParsed : {A : Type 0} → Parsed A → Type 0
 OfFormParsed (parsed a at line) = Unit {0}
 OfFormParsed (unparsed k) = OfForm k
 
-abbrev OfFormFormed : Formed → Type 0
+abbrev pub OfFormFormed : Formed → Type 0
 OfFormFormed (formed c) = Unit {0}
 OfFormFormed (unformed k) = OfForm k
 
 module _ (s : List ℕ) where
   -- ---- nodes
 
-  form_fields : (va : Bool) (k : Kind) (at line : ℕ) → OfFormNode (fields_at s va k at line)
+  pub form_fields : (va : Bool) (k : Kind) (at line : ℕ) → OfFormNode (fields_at s va k at line)
   unfolding fields_at
   form_fields va Nil at line = tt
   form_fields va True at line = tt
@@ -72,21 +69,13 @@ module _ (s : List ℕ) where
   form_fields va Call at line = on_byte OfFormNode _ refl (byte_at s at) _ λ n e. tt
   form_fields va Paren at line = tt
 
-  form_front : (at line : ℕ) → OfFormFront (front_at s at line)
+  pub form_front : (at line : ℕ) → OfFormFront (front_at s at line)
   form_front at line =
       on_byte OfFormFront _ refl (byte_at s at) _ λ b e.
       on_kind OfFormFront _ refl (kind_of b) _ λ k.
       on_byte OfFormFront _ refl (byte_at s (at + 1)) _ λ m g.
       on_require OfFormFront _ refl (eqb (m / 2) (map_of k)) _
       (on_test OfFormFront (eqb (m % 2) 0) _ _ tt (on_line OfFormFront _ refl (line_at s (at + 2)) _ λ l i. tt))
-
-  behind_front : (va : Bool) (f : Front) → OfFormFront f → OfFormNode (with_front f (fields_at s va))
-  behind_front va (front.Front k at line) h = form_fields va k at line
-  behind_front va (front.Refused k) h = h
-
-  form_node : (va : Bool) (at line : ℕ) → OfFormNode (node_at s va at line)
-  unfolding node_at
-  form_node va at line = behind_front va (front_at s at line) (form_front at line)
 
   -- ---- expressions
 
@@ -95,64 +84,24 @@ module _ (s : List ℕ) where
   form_then (unparsed k) f h g = h
 
   module _ (f : ℕ → ℕ → Parsed Expr) (low : (at line : ℕ) → OfFormParsed (f at line)) where
-    form_exprs : (n at line : ℕ) → OfFormParsed (exprs_at f n at line)
+    pub form_exprs : (n at line : ℕ) → OfFormParsed (exprs_at f n at line)
     unfolding exprs_at
     form_exprs zero at line = tt
     form_exprs (suc n) at line = form_then (f at line) _ (low at line) λ a at₁ line₁. form_then (exprs_at f n at₁ line₁) _ (form_exprs n at₁ line₁) λ es at₂ line₂. tt
 
-    form_rest : (p : Span) (h : Head) (at line : ℕ) → OfFormParsed (rest f p h at line)
+    pub form_rest : (p : Span) (h : Head) (at line : ℕ) → OfFormParsed (rest f p h at line)
     unfolding rest
     form_rest p (head.Leaf l) at line = tt
     form_rest p (head.One o) at line = form_then (f at line) _ (low at line) λ a at₁ line₁. tt
     form_rest p (head.Two t) at line = form_then (f at line) _ (low at line) λ a at₁ line₁. form_then (f at₁ line₁) _ (low at₁ line₁) λ b at₂ line₂. tt
     form_rest p (head.Many m n) at line = form_then (f at line) _ (low at line) λ a at₁ line₁. form_then (exprs_at f n at₁ line₁) _ (form_exprs n at₁ line₁) λ es at₂ line₂. tt
 
-  form_expr : (va : Bool) (left at line : ℕ) → OfFormParsed (expr_at s va left at line)
-  unfolding expr_at
-  form_expr va zero at line = refl
-  form_expr va (suc left) at line = go (node_at s va at line) (form_node va at line) (form_expr va left)
-    where
-      go : (r : NodeRead) → OfFormNode r → ((at line : ℕ) → OfFormParsed (expr_at s va left at line)) → OfFormParsed (with_node r λ n. rest (expr_at s va left) (record { line = n.line; place = at; nesting = max_nesting - left }) n.head n.next n.line)
-      go (node.Node n) h g = form_rest (expr_at s va left) g _ n.head n.next n.line
-      go (node.Refused k) h g = h
-
   -- ---- the chunk
 
-  form_formulas : (locals place : ℕ) (va : Bool) (at : ℕ) → OfFormHeader (formulas_at s locals place va at)
+  pub form_formulas : (locals place : ℕ) (va : Bool) (at : ℕ) → OfFormHeader (formulas_at s locals place va at)
   unfolding formulas_at
   form_formulas locals place va at = on_byte OfFormHeader _ refl (byte_at s at) _ λ n e. tt
 
-  form_names : (n : ℕ) (va : Bool) (r : Skipped) → OfFormHeader (with_skipped r (header.Refused refusal.Missing) λ at. formulas_at s n 2 va at)
-  form_names n va skip.Missing = refl
-  form_names n va (skip.To at) = form_formulas n 2 va at
-
-  form_header : OfFormHeader (header_at s)
-  unfolding header_at
-  form_header =
-      on_byte OfFormHeader _ refl (byte_at s 0) _ λ m e.
-      on_require OfFormHeader _ refl (leb m 3) _
-      (on_test OfFormHeader (eqb (m % 2) 0) _ _ (form_formulas 0 1 (eqb (m / 2 % 2) 1) 1)
-      (on_byte OfFormHeader _ refl (byte_at s 1) _ λ n g. on_require OfFormHeader _ refl (leb n max_locals) _ (form_names n (eqb (m / 2 % 2) 1) (skipped (names_at s n 2)))))
-
-  form_ended : (h : Header) (fs : Exprs) (at : ℕ) → OfFormFormed (ended s h fs at)
+  pub form_ended : (h : Header) (fs : Exprs) (at : ℕ) → OfFormFormed (ended s h fs at)
   unfolding ended
   form_ended h fs at = on_test OfFormFormed (eqb at (length s)) _ _ tt refl
-
-  form_form : OfFormFormed (form_of s)
-  unfolding form_of
-  form_form = go (leb (length s) max_length) (header_at s) form_header
-    where
-      all : (h : Header) (r : Parsed Exprs) → OfFormParsed r → OfFormFormed (with_exprs r (ended s h))
-      all h (parsed fs at line) l = form_ended h fs at
-      all h (unparsed k) l = l
-
-      read : (r : HeaderRead) → OfFormHeader r → OfFormFormed (with_header r λ h. with_exprs (exprs_at (expr_at s h.varargs max_nesting) h.formulas h.next 1) (ended s h))
-      read (header.Header h) l = all h (exprs_at (expr_at s h.varargs max_nesting) h.formulas h.next 1) (form_exprs (expr_at s h.varargs max_nesting) (form_expr h.varargs max_nesting) h.formulas h.next 1)
-      read (header.Refused k) l = l
-
-      go : (t : Bool) (r : HeaderRead) → OfFormHeader r → OfFormFormed (elim t as (λ (_ : Bool). Formed) [ false ↦ unformed refusal.TooLong | true ↦ with_header r λ h. with_exprs (exprs_at (expr_at s h.varargs max_nesting) h.formulas h.next 1) (ended s h) ])
-      go true r l = read r l
-      go false r l = refl
-
-  pub early : (x : Refusal) → form_of s ≡ unformed x → stage_of x ≡ form
-  early x e = subst OfFormFormed e form_form

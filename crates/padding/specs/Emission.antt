@@ -1,4 +1,5 @@
 -- Emitting words, registers and constants keep the tails clean: a word goes with its line to the first free place, and a new constant to the first free entry, with its text behind those in use.
+-- What rests on something that a must-fail edit breaks stands in proofs/Emission.antt.
 use Rattle.std.specs.Prelude.{ℕ, ◌+◌, ◌-◌, ◌≤◌, ◌<◌, max, Bool, ◌&&◌, ◌≡◌, List, length, leb, ltb}
 use Rattle.std.proofs.Math.Bool.{true, false}
 use Rattle.std.proofs.Math.Path.{refl}
@@ -21,7 +22,7 @@ use Rattle.constants.specs.declared.Added.TheVariants as added
 use Rattle.model.specs.declared.State.{State}
 use Rattle.model.specs.Steps.{Buffers, done, refused, change, change_words}
 use Rattle.model.specs.Jumps.{word, remove_values, patch_list_aux}
-use Rattle.model.specs.Emission.{with_pc, with_free, with_frame, with_jpc, with_label, discharge_jpc, no_room, store, push, emit_at, emit, concat, emit_jump, patch_to_here, get_label, code_label, adjoins, load_nil, emit_nil, check_stack, reserve_regs, alloc_reg, free_reg, stored_in, add_constant}
+use Rattle.model.specs.Emission.{with_pc, with_free, with_frame, with_jpc, with_label, discharge_jpc, no_room, store, push, emit_at, emit, concat, emit_jump, patch_to_here, get_label, code_label, adjoins, load_nil, emit_nil, check_stack, reserve_regs, alloc_reg, free_reg, stored_in}
 use Rattle.model.specs.Discharge.{change_word}
 use Rattle.model.specs.Lowering.{Sizes}
 use Rattle.threads.specs.Holding.{roomy}
@@ -31,7 +32,7 @@ use Rattle.padding.specs.Lengths.{length_linked, length_remove, length_patch_lis
 -- ---- constants
 
 -- a table only grows
-record Grew (t t' : Table) : Type 0 where
+pub record Grew (t t' : Table) : Type 0 where
   pub count : t.count ≤ t'.count
   pub used : t.used ≤ t'.used
 
@@ -54,7 +55,7 @@ grows_append chunk t (val.Bool true) ks vs pool = grew_new t 0
 grows_append chunk t (val.Num x b) ks vs pool = grew_new t 0
 grows_append chunk t (val.Str s n) ks vs pool = grows_text (leb (t.used + length (part chunk s n)) (length pool)) t (part chunk s n) ks vs pool
 
-grows_added : (chunk : List ℕ) (t : Table) (v : Val) (ks vs pool : List ℕ) → Grows t (added_to chunk t v ks vs pool).answer
+pub grows_added : (chunk : List ℕ) (t : Table) (v : Val) (ks vs pool : List ℕ) → Grows t (added_to chunk t v ks vs pool).answer
 grows_added chunk t v ks vs pool = search (find (holds pool chunk v) t.count ks vs) refl
   where
     room : find (holds pool chunk v) t.count ks vs ≡ Nothing → (b : Bool) → full t.count ks vs ≡ b → Grows t (added_to chunk t v ks vs pool).answer
@@ -66,7 +67,7 @@ grows_added chunk t v ks vs pool = search (find (holds pool chunk v) t.count ks 
     search Nothing e = room e (full t.count ks vs) refl
 
 module _ {z : Sizes} where
-  stored_leaves : (chunk : List ℕ) (v : Val) (s : State) (m : Buffers) (r : Added) (ks vs pool : List ℕ) → added_to chunk s.table v m.kinds m.values m.pool ≡ out r ks vs pool → Grows s.table r → Clean z s m → Leaves z (stored_in s m (out r ks vs pool))
+  pub stored_leaves : (chunk : List ℕ) (v : Val) (s : State) (m : Buffers) (r : Added) (ks vs pool : List ℕ) → added_to chunk s.table v m.kinds m.values m.pool ≡ out r ks vs pool → Grows s.table r → Clean z s m → Leaves z (stored_in s m (out r ks vs pool))
   stored_leaves chunk v s m (added.Refused k) ks vs pool e g c = none k _
   stored_leaves chunk v s m (added.At i t) ks vs pool e g c =
       let k : Kept m.kinds m.values m.pool t ks vs pool = kept_added chunk s.table v m.kinds m.values m.pool e in
@@ -82,10 +83,6 @@ module _ {z : Sizes} where
         values = λ j h. k.values_behind j h ∙ c.values j (omega (arith, g.count));
         pool = λ j h. k.pool_behind j h ∙ c.pool j (omega (arith, g.used));
       })
-
-  pub keeps_add_constant : (chunk : List ℕ) (v : Val) → Keeps z (add_constant chunk v)
-  unfolding add_constant
-  keeps_add_constant chunk v s m c = stored_leaves chunk v s m _ _ _ _ refl (grows_added chunk s.table v m.kinds m.values m.pool) c
 
   -- ---- words
 

@@ -9,7 +9,7 @@ use Rattle.model.specs.declared.Lowered.TheVariants as answer
 use Rattle.model.specs.Steps.{Buffers}
 use Rattle.model.specs.Claims.{Padded, Bytes}
 use Rattle.model.specs.Lowering.{lowered}
-use Rattle.padding.specs.Padded.{padded}
+use Rattle.padding.proofs.Padded.{padded}
 use Rattle.listing.specs.declared.Listed.TheVariants as listed
 use Rattle.listing.specs.Page.{Sheet, sheet, written}
 use Rattle.listing.specs.Listing.{decimal, glyph, hex, word_line, constant_line, word_lines, constant_lines, refusal_line, listing}

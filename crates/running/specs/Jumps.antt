@@ -1,5 +1,6 @@
 -- Jumps: a control word goes on to its Jmp where labelled code takes the jump, and skips it where it doesn't; a Jmp with a target leads there, forward.
 -- A pending jump that is taken asks for nothing, so the register that its TestSet doesn't have yet is never written.
+-- What rests on something that a must-fail edit breaks stands in proofs/Jumps.antt.
 use Rattle.std.specs.Prelude.{ℕ, ◌+◌, ◌-◌, ◌≤◌, ◌<◌, Bool, not, ◌≡◌, List, [], ◌∷◌, length, set}
 use Rattle.std.proofs.Math.Bool.{true, false}
 use Rattle.std.proofs.Math.Path.{refl, ap}
@@ -16,16 +17,16 @@ use Rattle.model.specs.Jumps.{word}
 use Rattle.model.specs.Conditions.{bit}
 use Rattle.model.specs.Running as run
 use Rattle.model.specs.Running.{Program, Open, Machine, After, goes, same as agrees}
-use Rattle.labelled.specs.Code.{Rk, Ctrl, always, test, tset, tseta, cmp, Tgt, to, lbl, Instr, pl, br, cwidth, width}
-use Rattle.labelled.specs.Machine.{Hist, Regs, Setting, pick, upd, rk, at, goto, choose, compared, branch, perform}
+use Rattle.labelled.specs.Code.{Rk, Ctrl, always, test, tset, tseta, cmp, Tgt, to, lbl, br, cwidth}
+use Rattle.labelled.specs.Machine.{Hist, Regs, Setting, pick, upd, rk, at, goto, choose, compared, branch}
 use Rattle.threads.specs.Words.{jmp_to}
 use Rattle.threads.specs.Encoding.{comparison, Compares, Jw, EncI}
-use Rattle.threads.specs.Coded.{CodesRk, LowC, LowI, coded}
+use Rattle.threads.specs.Coded.{CodesRk, LowC, coded}
 use Rattle.running.specs.Registers.{Holds, holds_set}
 use Rattle.running.specs.Reaching.{does}
 use Rattle.running.specs.Decoding.{Abc, abc, bit_small, flag_bit, sbx_forward}
 use Rattle.running.specs.Operands.{rk_small, Lists, state, to_law, reg_law, rk_law}
-use Rattle.running.specs.Arriving.{At, Arrives, arrive, plain_arrives}
+use Rattle.running.specs.Arriving.{At, Arrives, arrive}
 
 -- a skip as a choice of two machines
 skips : (t : Bool) (m : Machine) → run.skip_if (not t) m ≡ pick t (run.next m) (goes (run.at (m.pc + 2) m))
@@ -115,7 +116,7 @@ module _ (Γ : Setting) (p : Program) (s : Machine) (t : List Constant) (lists :
     waiting true ℓ b a e l = tt
     waiting false ℓ b a e l = arrive Γ p s d (n + 2) d.registers (omega nat) (omega nat) (omega nat) d.holds e
 
-    branch_arrives : (c : Ctrl) (g : Tgt) → EncI (coded t p.frame) p.words n (br c g) → LowC p.frame c → cwidth c + n ≤ length p.words → Arrives Γ p s (branch Γ c g n R h)
+    pub branch_arrives : (c : Ctrl) (g : Tgt) → EncI (coded t p.frame) p.words n (br c g) → LowC p.frame c → cwidth c + n ≤ length p.words → Arrives Γ p s (branch Γ c g n R h)
     branch_arrives always (to q) e b l = let z : word p.words n ≡ jmp_to n q = rw (zero-add n) at e.1.0 in jump_arrives q d z (omega (nat, e.1.2)) e.1.3 (omega nat)
     branch_arrives always (lbl ℓ) e b l = tt
     branch_arrives (test r k) g e b l = pair (agrees (is_true (R r)) k) g (test r k) none d.registers R h d.holds (test_law Γ p t lists most d.registers R d.holds n none h (word p.words n) r k b e.0.0) e.1 l
@@ -129,8 +130,3 @@ module _ (Γ : Setting) (p : Program) (s : Machine) (t : List Constant) (lists :
     branch_arrives (cmp o k i j) g e b l =
         pair (agrees (compared Γ o i j R h).gives k) g (cmp o k i j) none d.registers R (compared Γ o i j R h).steps d.holds
         (compare_law Γ p t lists most d.registers R d.holds n none h (word p.words n) o k i j e.0.0 e.0.1 e.0.3 e.0.4 e.0.5 e.0.2) e.1 l
-
-    -- an instruction carried out
-    pub perform_arrives : (i : Instr) → EncI (coded t p.frame) p.words n i → LowI p.frame i → width i + n ≤ length p.words → Arrives Γ p s (perform Γ i n R h)
-    perform_arrives (pl x) e b l = plain_arrives Γ p s d t lists most x e l
-    perform_arrives (br c g) e b l = branch_arrives c g e b l

@@ -1,5 +1,6 @@
 -- Single words that are no jumps: each does in the run what it does in labelled code, one word further on (`LoadBool` that skips: two).
 -- Its fields read back, its operands are what labelled code reads, and then both work out the same.
+-- What rests on something that a must-fail edit breaks stands in proofs/Plain.antt.
 use Prim.Native.Nat.{ℕ, zero, suc, ◌+◌, ◌-◌, ◌≤◌, ◌<◌}
 use Rattle.std.specs.Prelude.{Bool, false, not, ◌≡◌, List, [], ◌∷◌, set}
 use Rattle.std.proofs.Math.Path.{refl}
@@ -7,7 +8,7 @@ use Rattle.std.proofs.Common.{◌∙◌}
 use Rattle.std.proofs.Math.Option.{Option}
 use native.Mathlib.Omega.{arith as nat}
 use Rattle.std.proofs.lemmas.List.Edits.{sets}
-use borrow.Author.Tests.{lt-ltb, le-leb}
+use borrow.Author.Tests.{le-leb}
 use Rattle.instructions.specs.Limits.{max_stack}
 use Rattle.instructions.specs.Word.{opcode_of, a_of, b_of, c_of, bx_of, abc_of, a_bx_of}
 use Rattle.opcodes.specs.declared.OpCode.{OpCode}
@@ -20,14 +21,14 @@ use Rattle.model.specs.Running as run
 use Rattle.model.specs.Running.{Program, Open, Machine, After, goes}
 use Rattle.model.specs.Conditions.{bit}
 use Rattle.model.specs.Operators.{arith_op}
-use Rattle.labelled.specs.Code.{Rk, Ex, val, cp, glob, idx, ari, neg, len, notx, cat, vfst}
-use Rattle.labelled.specs.Machine.{Hist, Regs, Setting, rk, upd, span, cats, eval, eval_s}
+use Rattle.labelled.specs.Code.{Rk}
+use Rattle.labelled.specs.Machine.{Hist, Regs, Setting, rk, upd, span, cats, eval_s}
 use Rattle.labelled.specs.Table.{place}
 use Rattle.labelled.specs.Places.{Listed}
-use Rattle.threads.specs.Coded.{Binary, CodesRk, CodesV, CodesX}
+use Rattle.threads.specs.Coded.{Binary, CodesRk, CodesV}
 use Rattle.running.specs.Registers.{Holds, holds_set, fit_length}
 use Rattle.running.specs.Decoding.{Abc, ABx, abc, a_bx, bit_small, flag_bit}
-use Rattle.running.specs.Operands.{rk_small, Lists, state, fit_one, put_law, to_law, puts_law, reg_law, regs_law, constant_law, rk_law}
+use Rattle.running.specs.Operands.{rk_small, Lists, state, fit_one, put_law, to_law, puts_law, reg_law, constant_law, rk_law}
 
 module _ (Γ : Setting) (p : Program) (t : List Constant) (lists : Lists p t) (most : p.frame ≤ max_stack) (rs : List Value) (R : Regs) (holds : Holds p.frame rs R) (n : ℕ) (l : Option Open) (h : Hist) where
   abbrev W : World
@@ -53,13 +54,13 @@ module _ (Γ : Setting) (p : Program) (t : List Constant) (lists : Lists p t) (m
   operand = rk_law W p VS t lists rs R holds n l h (omega nat)
 
   -- the model's concatenations of a list of registers are those of labelled code
-  joined_cats : (k b : ℕ) → run.joined W p VS (span (suc k) b R) h ≡ cats Γ k b R h
+  pub joined_cats : (k b : ℕ) → run.joined W p VS (span (suc k) b R) h ≡ cats Γ k b R h
   unfolding run.joined
   joined_cats zero b = refl
   joined_cats (suc k) b = rw (joined_cats k (suc b)) refl
 
   module _ (x a : ℕ) (la : a < p.frame) where
-    writing : (v : Value) (g : Hist) → a_of x ≡ a → run.to W p VS (state n rs l g) (a_of x) v ≡ writes a v g
+    pub writing : (v : Value) (g : Hist) → a_of x ≡ a → run.to W p VS (state n rs l g) (a_of x) v ≡ writes a v g
     writing v g e = to_law W p VS n l g rs (a_of x) a v e la
 
     -- a constant by its place, which fits Bx
@@ -76,7 +77,7 @@ module _ (Γ : Setting) (p : Program) (t : List Constant) (lists : Lists p t) (m
     load_bool b s e = let i : Abc x op.LoadBool a (bit b) (bit s) = abc e (omega nat) (omega (nat, bit_small b)) (omega (nat, bit_small s)) in
         rw i.is_op (put_law W p VS n l h rs (a_of x) a (truth (run.flag (b_of x))) (λ k. run.skip_if (run.flag (c_of x)) k) i.is_a la ∙ rw (i.is_b, i.is_c, flag_bit b, flag_bit s) refl)
 
-    value_law : (v : Value) → CodesV t p.frame x a v → carries x ≡ writes a v h
+    pub value_law : (v : Value) → CodesV t p.frame x a v → carries x ≡ writes a v h
     value_law nil c = absurd c
     value_law (truth b) c = load_bool b false c
     value_law (number k) c = load (knumber k) c.0 c.1
@@ -88,33 +89,33 @@ module _ (Γ : Setting) (p : Program) (t : List Constant) (lists : Lists p t) (m
       of_one : (o : OpCode) → x ≡ abc_of o a r 0 → Abc x o a r 0
       of_one o e = abc e (omega nat) (omega nat) (omega nat)
 
-      move_law : x ≡ abc_of op.Move a r 0 → carries x ≡ writes a (R r) h
+      pub move_law : x ≡ abc_of op.Move a r 0 → carries x ≡ writes a (R r) h
       unfolding run.execute
       move_law e = let i : Abc x op.Move a r 0 = of_one op.Move e in rw i.is_op (reading (b_of x) r (λ v. run.to W p VS m (a_of x) v) i.is_b lr ∙ writing (R r) h i.is_a)
 
-      unm_law : x ≡ abc_of op.Unm a r 0 → carries x ≡ writes a (negation W (R r) h).gives (negation W (R r) h).steps
+      pub unm_law : x ≡ abc_of op.Unm a r 0 → carries x ≡ writes a (negation W (R r) h).gives (negation W (R r) h).steps
       unfolding run.execute
       unm_law e = let i : Abc x op.Unm a r 0 = of_one op.Unm e in
           rw i.is_op (reading (b_of x) r (λ v. run.computed W p VS m (a_of x) (negation W v h)) i.is_b lr ∙ writing (negation W (R r) h).gives (negation W (R r) h).steps i.is_a)
 
-      not_law : x ≡ abc_of op.Not a r 0 → carries x ≡ writes a (truth (not (is_true (R r)))) h
+      pub not_law : x ≡ abc_of op.Not a r 0 → carries x ≡ writes a (truth (not (is_true (R r)))) h
       unfolding run.execute
       not_law e = let i : Abc x op.Not a r 0 = of_one op.Not e in
           rw i.is_op (reading (b_of x) r (λ v. run.to W p VS m (a_of x) (truth (not (is_true v)))) i.is_b lr ∙ writing (truth (not (is_true (R r)))) h i.is_a)
 
-      len_law : x ≡ abc_of op.Len a r 0 → carries x ≡ writes a (ask W length_of (R r ∷ []) h).gives (ask W length_of (R r ∷ []) h).steps
+      pub len_law : x ≡ abc_of op.Len a r 0 → carries x ≡ writes a (ask W length_of (R r ∷ []) h).gives (ask W length_of (R r ∷ []) h).steps
       unfolding run.execute
       len_law e = let i : Abc x op.Len a r 0 = of_one op.Len e in
           rw i.is_op (reading (b_of x) r (λ v. run.asked W p VS m (a_of x) length_of (v ∷ [])) i.is_b lr ∙ writing (ask W length_of (R r ∷ []) h).gives (ask W length_of (R r ∷ []) h).steps i.is_a)
 
-      index_law : (k : Rk) (u : ℕ) → CodesRk t p.frame k u → x ≡ abc_of op.GetTable a r u → carries x ≡ writes a (ask W index_read (R r ∷ rk k R ∷ []) h).gives (ask W index_read (R r ∷ rk k R ∷ []) h).steps
+      pub index_law : (k : Rk) (u : ℕ) → CodesRk t p.frame k u → x ≡ abc_of op.GetTable a r u → carries x ≡ writes a (ask W index_read (R r ∷ rk k R ∷ []) h).gives (ask W index_read (R r ∷ rk k R ∷ []) h).steps
       unfolding run.execute
       index_law k u c e = let i : Abc x op.GetTable a r u = abc e (omega nat) (omega nat) (rk_small t p.frame most k u c) in
           rw i.is_op (reading (b_of x) r (λ o. run.rk_value W p VS m (c_of x) λ v. run.asked W p VS m (a_of x) index_read (o ∷ v ∷ [])) i.is_b lr
           ∙ operand (c_of x) u k (λ v. run.asked W p VS m (a_of x) index_read (R r ∷ v ∷ [])) i.is_c c
           ∙ writing (ask W index_read (R r ∷ rk k R ∷ []) h).gives (ask W index_read (R r ∷ rk k R ∷ []) h).steps i.is_a)
 
-    global_law : (g : List ℕ) → Listed (ktext g) t → x ≡ a_bx_of op.GetGlobal a (place (ktext g) t) → carries x ≡ writes a (ask W global_read (text g ∷ []) h).gives (ask W global_read (text g ∷ []) h).steps
+    pub global_law : (g : List ℕ) → Listed (ktext g) t → x ≡ a_bx_of op.GetGlobal a (place (ktext g) t) → carries x ≡ writes a (ask W global_read (text g ∷ []) h).gives (ask W global_read (text g ∷ []) h).steps
     unfolding run.execute
     global_law g b e = let i : ABx x op.GetGlobal a (place (ktext g) t) = with_constant op.GetGlobal (ktext g) b e in
         rw i.is_op (constant_law W p VS t lists (bx_of x) (ktext g) (λ k. run.name_of k λ v. run.asked W p VS m (a_of x) global_read (v ∷ [])) i.is_bx b
@@ -133,39 +134,17 @@ module _ (Γ : Setting) (p : Program) (t : List Constant) (lists : Lists p t) (m
     carry_arith arith.Pow b = refl
     carry_arith arith.Unm b = absurd b
 
-    arith_law : (o : Arith) (j k : Rk) (u v : ℕ) → Binary o → CodesRk t p.frame j u → CodesRk t p.frame k v → x ≡ abc_of (arith_op o) a u v →
+    pub arith_law : (o : Arith) (j k : Rk) (u v : ℕ) → Binary o → CodesRk t p.frame j u → CodesRk t p.frame k v → x ≡ abc_of (arith_op o) a u v →
         carries x ≡ writes a (compute W o (rk j R) (rk k R) h).gives (compute W o (rk j R) (rk k R) h).steps
     arith_law o j k u v b cj ck e = let i : Abc x (arith_op o) a u v = abc e (omega nat) (rk_small t p.frame most j u cj) (rk_small t p.frame most k v ck) in
         rw i.is_op (carry_arith o b ∙ operand (b_of x) u j (λ y. run.rk_value W p VS m (c_of x) λ z. run.computed W p VS m (a_of x) (compute W o y z h)) i.is_b cj
         ∙ operand (c_of x) v k (λ z. run.computed W p VS m (a_of x) (compute W o (rk j R) z h)) i.is_c ck
         ∙ writing (compute W o (rk j R) (rk k R) h).gives (compute W o (rk j R) (rk k R) h).steps i.is_a)
 
-    concat_law : (b k : ℕ) → 1 ≤ k → k + b < p.frame → x ≡ abc_of op.Concat a b (k + b) → carries x ≡ writes a (cats Γ k b R h).gives (cats Γ k b R h).steps
-    unfolding run.execute
-    concat_law b k one lk e = let i : Abc x op.Concat a b (k + b) = abc e (omega nat) (omega nat) (omega nat) in
-        let z : k + b + 1 - b ≡ suc k = omega nat in
-        rw (i.is_op, i.is_b, i.is_c, lt-ltb b (k + b) (omega nat), z)
-        (regs_law W p VS rs R holds n l h (suc k) b (λ vs. run.computed W p VS m (a_of x) (run.joined W p VS vs h)) (omega nat)
-        ∙ rw (joined_cats k b) (writing (cats Γ k b R h).gives (cats Γ k b R h).steps i.is_a))
-
-    vararg_law : x ≡ abc_of op.VarArg a 2 0 → carries x ≡ writes a (first VS) h
+    pub vararg_law : x ≡ abc_of op.VarArg a 2 0 → carries x ≡ writes a (first VS) h
     unfolding run.execute
     vararg_law e = let i : Abc x op.VarArg a 2 0 = abc e (omega nat) (omega nat) (omega nat) in
         rw (i.is_op, i.is_a, i.is_b, fit_one VS) (puts_law W p VS n l h (first VS ∷ []) rs a run.next (omega nat))
-
-    -- what a word that sets one register works out
-    pub set_law : (e : Ex) → CodesX t p.frame x a e → carries x ≡ writes a (eval Γ e R h).gives (eval Γ e R h).steps
-    unfolding eval
-    set_law (val v) c = value_law v c
-    set_law (cp r) c = move_law r c.0 c.1
-    set_law (glob g) c = global_law g c.0 c.1
-    set_law (idx r k) c = index_law r c.1.0 k c.0 c.1.1.0 c.1.1.1
-    set_law (ari o j k) c = arith_law o j k c.0 c.1.0 c.1.1.0 c.1.1.1.0 c.1.1.1.1.0 c.1.1.1.1.1
-    set_law (neg r) c = unm_law r c.0 c.1
-    set_law (len r) c = len_law r c.0 c.1
-    set_law (notx r) c = not_law r c.0 c.1
-    set_law (cat b k) c = concat_law b k c.0 c.1.0 c.1.1
-    set_law vfst c = vararg_law c
 
   -- nil in the registers a to a + k
   pub nil_law : (x a k : ℕ) → k + a < p.frame → x ≡ abc_of op.LoadNil a (k + a) 0 → carries x ≡ goes (state (n + 1) (sets rs a (fit (suc k) [])) l h)

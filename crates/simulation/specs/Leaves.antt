@@ -29,7 +29,7 @@ use Rattle.labelled.specs.Table.{place}
 use Rattle.labelled.specs.Places.{listed_include, place_include}
 use Rattle.labelled.specs.Emission.{St, add_k, flush, here}
 use Rattle.labelled.specs.Fresh.{On, flush_u}
-use Rattle.labelled.specs.Discharge.{K, kc, kd, kl, kg, kva, fresh}
+use Rattle.labelled.specs.Discharge.{kc, kd, kl, kg, kva, fresh}
 use Rattle.labelled.specs.Expressions.{text_c, resolved as resolved_l, comp_leaf}
 use Rattle.threads.specs.Words.{word_same}
 use Rattle.threads.specs.Represents.{set_h}

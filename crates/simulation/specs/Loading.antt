@@ -30,7 +30,7 @@ use Rattle.labelled.specs.Emission.{St, set_free, add_k, push, one}
 use Rattle.labelled.specs.Places.{listed_include, place_include}
 use Rattle.labelled.specs.Firm.{true≢false}
 use Rattle.labelled.specs.Fresh.{Under}
-use Rattle.labelled.specs.Discharge.{K4, kc, kr, kx, kj, K, d2r, is_cmp}
+use Rattle.labelled.specs.Discharge.{K4, kc, kr, kx, kj, d2r, is_cmp}
 use Rattle.labelled.specs.Owning.{Own4}
 use Rattle.threads.specs.Represents.{set_h}
 use Rattle.threads.specs.Coded.{CodesV, CodesX, Codes}

@@ -22,7 +22,7 @@ use Rattle.labelled.specs.Machine.{pick}
 use Rattle.labelled.specs.Table.{place, include, roomy, is_near}
 use Rattle.labelled.specs.Places.{Listed, listed_include, place_include, near_place, roomy_place}
 use Rattle.labelled.specs.Emission.{St, add_k, hit}
-use Rattle.labelled.specs.Discharge.{K4, kc, kr, kx, kj, K, Pair, Par4, RgS, lift4, add_p, dv, anyreg, as_rk, con_rk, small_rk, rk_c, rk_k, exp2rk as exp2rk_l}
+use Rattle.labelled.specs.Discharge.{K4, kc, kr, kx, kj, Pair, Par4, RgS, lift4, add_p, dv, anyreg, as_rk, con_rk, small_rk, rk_c, rk_k, exp2rk as exp2rk_l}
 use Rattle.threads.specs.Holding.{Ends, gives, ends_then, ends_map}
 use Rattle.simulation.specs.Sim.{Env, Sim, SimD, SimR, Operand, SimK, Sound}
 use Rattle.simulation.specs.Registers.{chosen}

@@ -24,9 +24,10 @@ use Rattle.model.specs.Expressions.{between, after_two, set_indexed}
 use Rattle.labelled.specs.Code.{reg, con}
 use Rattle.labelled.specs.Places.{Grows}
 use Rattle.labelled.specs.Emission.{St}
-use Rattle.labelled.specs.Fresh.{On, New4, before_on, go_on, next_on, any_on, dv_new}
+use Rattle.labelled.specs.Fresh.{On, New4, before_on, next_on, any_on, dv_new}
+use Rattle.labelled.proofs.Fresh.{go_on}
 use Rattle.labelled.specs.Owning.{freed_own}
-use Rattle.labelled.specs.Marks.{marks_plain}
+use Rattle.labelled.proofs.Marks.{marks_plain}
 use Rattle.labelled.specs.Branching.{go_if_nxt, go_if_free}
 use Rattle.labelled.specs.Conditions.{go_if}
 use Rattle.labelled.specs.Discharge.{Pair, RkS, RgS, freed, dv, nextreg, anyreg}

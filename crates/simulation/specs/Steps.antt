@@ -27,10 +27,11 @@ use Rattle.threads.specs.Encoding.{Ctl, Open}
 use Rattle.threads.specs.Places.{jofs}
 use Rattle.threads.specs.Represents.{set_h}
 use Rattle.threads.specs.Holding.{Ends, ends_map, Holds, Kept, Aside, with_code, aside_with, emit_line}
-use Rattle.threads.specs.Stepping.{hold_emit_at, hold_over, hold_jump, hold_pair, hold_concat, hold_here, hold_to_here, hold_discharge, hold_strip, hold_replace, hold_invert, hold_popped, to_here}
+use Rattle.threads.specs.Stepping.{hold_over, hold_jump, hold_concat, hold_here, hold_to_here, hold_strip, hold_replace, hold_invert, to_here}
+use Rattle.threads.proofs.Stepping.{hold_emit_at, hold_pair, hold_discharge, hold_popped}
 use Rattle.threads.specs.Emitting.{discharged}
 use Rattle.threads.specs.Last.{inverted}
-use Rattle.threads.specs.Settling.{hold_settle}
+use Rattle.threads.proofs.Settling.{hold_settle}
 use Rattle.threads.specs.Coded.{CodesC, Codes, coded, LowC, Low}
 use Rattle.simulation.specs.Sim.{Env, NoNil, Apart, labelled_here, other_word, Marks, Sim}
 

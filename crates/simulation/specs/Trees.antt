@@ -7,9 +7,10 @@ use Rattle.labelled.specs.Emission.{St}
 use Rattle.labelled.specs.Expressions.{comp}
 use Rattle.labelled.specs.Places.{Grows}
 use Rattle.labelled.specs.Owning.{Own}
-use Rattle.labelled.specs.Fresh.{On, comp_new}
-use Rattle.labelled.specs.Shape.{comp_shaped}
-use Rattle.labelled.specs.Listing.{comp_makes}
+use Rattle.labelled.specs.Fresh.{On}
+use Rattle.labelled.proofs.Fresh.{comp_new}
+use Rattle.labelled.proofs.Shape.{comp_shaped}
+use Rattle.labelled.proofs.Listing.{comp_makes}
 use Rattle.simulation.specs.Sim.{Env, Sound}
 
 module _ (chunk : List ℕ) (names : List Text) where

@@ -20,7 +20,7 @@ use Rattle.model.specs.declared.ExprKind.TheVariants as kind
 use Rattle.model.specs.declared.ExprContext.{ExprContext}
 use Rattle.model.specs.declared.State.{State}
 use Rattle.model.specs.Descriptor.{with_kind, is_numeral, new_of}
-use Rattle.model.specs.Steps.{Buffers, done, ◌>>=◌, ◌>>◌, return}
+use Rattle.model.specs.Steps.{Buffers, done, ◌>>=◌, return}
 use Rattle.model.specs.Emission.{with_free, emit}
 use Rattle.model.specs.Discharge.{free_expr, rk}
 use Rattle.model.specs.Operators.{const_fold, with_number, unless_folded, code_unary, code_unop}

@@ -1,5 +1,6 @@
 -- Emission: a word behind the others that no list sees; a control word with a new Jmp, which is a list of its own; `discharge_jpc`; and `emit_jump` with difference 1,
 -- by which the pending jumps lose their values and hang behind the new one. Label 0 is that of the jumps to the word to come.
+-- What rests on something that a must-fail edit breaks stands in proofs/Emitting.antt.
 use Prim.Native.Nat.{ℕ, zero, suc, ◌+◌, ◌≤◌, ◌<◌}
 use Rattle.std.specs.Prelude.{Bool, ◌||◌, ◌≡◌, List, [], ◌∷◌, length, set}
 use Rattle.std.proofs.Math.Bool.{true, false}
@@ -10,16 +11,16 @@ use Rattle.std.proofs.lemmas.List.{length-replicate}
 use Rattle.buffers.specs.Pad.{zeros}
 use Rattle.instructions.specs.Limits.{max_words, no_reg}
 use Rattle.model.specs.Jumps.{word, linked, remove_values, patch_list_aux}
-use Rattle.labelled.specs.Code.{same, same_refl, same_ne, same_true, same_false, Ctrl, always, to, lbl, PW, Instr, pl, br, pwidth, width, Code, size, Act, re, edit}
+use Rattle.labelled.specs.Code.{same, same_refl, same_ne, same_true, same_false, Ctrl, always, to, lbl, Instr, pl, br, width, Code, size, Act, re, edit}
 use Rattle.threads.specs.Edits.{edit_fuse, strip_then}
 use Rattle.threads.specs.Words.{word_same, word_other, is_jmp, new_j, next, next_new}
 use Rattle.threads.specs.Places.{jofs, cwidth_tail, key, key_at, is_lab, is_l, look, mem, count, look_range, look_beyond, edit_absent}
-use Rattle.threads.specs.Encoding.{Coding, pend, Ctl, Open, EncI, enc_agree}
+use Rattle.threads.specs.Encoding.{Coding, pend, EncI, enc_agree}
 use Rattle.threads.specs.Turns.{opt_r}
 use Rattle.threads.specs.Chains.{bool_clash, Chain, chain_keep}
-use Rattle.threads.specs.Represents.{Thr, set_h, Rep, rep_patch, rep_strip, rep_concat}
+use Rattle.threads.specs.Represents.{Thr, set_h, Rep, rep_strip, rep_concat}
 use Rattle.labelled.specs.Machine.{pick}
-use Rattle.labelled.specs.Emission.{here, one}
+use Rattle.labelled.specs.Emission.{one}
 use Rattle.labelled.specs.Edits.{size_edit}
 
 pub no_word : (n q : ℕ) → word (zeros n) q ≡ 0
@@ -145,43 +146,10 @@ emitted_pair ws n j w = set (emitted ws n j w) (1 + n) new_j
 abbrev pub emitted_jump : List ℕ → ℕ → ℕ → List ℕ
 emitted_jump ws n j = linked (set (remove_values (length ws) ws j) n new_j) (suc n) j
 
-opt_none : opt_r no_reg ≡ none
+pub opt_none : opt_r no_reg ≡ none
 opt_none = rw (same_refl no_reg) refl
 
 module _ {K : Coding} {cap : ℕ} {ws : List ℕ} {H : ℕ → ℕ} {c : Code} (r : Rep K cap ws H c) where
-  -- `discharge_jpc` is the edit of label 0
-  pub rep_discharge : Rep K cap (discharged ws (size c) (H 0)) (set_h 0 0 H) (edit (here c) c)
-  rep_discharge = rw opt_none at (rep_patch r 0 (size c) no_reg (size c) (omega arith) r.few r.few (λ p e. (look_range (is_lab 0) c p e, look_range (is_lab 0) c p e)))
-
-  -- `emit` of a plain word
-  pub rep_emit : (x : PW) (v : ℕ) → K.plain (emitted ws (size c) (H 0) v) (size c) x → pwidth x ≡ 1 → size c < cap → size c < max_words → Rep K cap (emitted ws (size c) (H 0) v) (set_h 0 0 H) (pl x ∷ edit (here c) c)
-  rep_emit x v e w room few =
-      let d : List ℕ = discharged ws (size c) (H 0) in
-      let s : size (edit (here c) c) ≡ size c = size_edit (here c) c in
-      rep_plain (set d (size c) v) (pl x) (length-set d (size c) v) (λ q l. word_other d (size c) q v (λ y. omega arith))
-      (omega arith) (omega arith) (rw s e) (λ q l. word_other d (size c) q v (λ y. omega arith) ∙ rep_discharge.clean q (omega arith)) rep_discharge refl
-
-  -- a control word with a new Jmp, under a label that has no list
-  pub rep_pair : (k : Ctrl) (m w : ℕ) → jofs k ≡ 1 → Open k → ((us : List ℕ) → word us (size c) ≡ w → Ctl K us (size c) k) → H m ≡ 0 → 1 + size c < cap → 1 + size c < max_words →
-      Rep K cap (emitted_pair ws (size c) (H 0) w) (set_h m (suc (1 + size c)) (set_h 0 0 H)) (br k (lbl m) ∷ edit (here c) c)
-  rep_pair k m w two op cw fresh room few =
-      let d : List ℕ = discharged ws (size c) (H 0) in
-      let s : size (edit (here c) c) ≡ size c = size_edit (here c) c in
-      let n : length (set d (size c) w) ≡ cap = length-set d (size c) w ∙ rep_discharge.len in
-      let us : List ℕ = set (set d (size c) w) (1 + size c) new_j in
-      let top : word us (1 + size c) ≡ new_j = word_same (set d (size c) w) (1 + size c) new_j (omega arith) in
-      let low : word us (size c) ≡ w = word_other (set d (size c) w) (1 + size c) (size c) new_j (λ y. omega arith) ∙ word_same d (size c) w (omega (arith, rep_discharge.len)) in
-      let fr : set_h 0 0 H m ≡ 0 = zero_head (same m 0) in
-      rw (two, s) at (rep_pend us (br k (lbl m)) (length-set (set d (size c) w) (1 + size c) new_j ∙ length-set d (size c) w)
-      (λ q l. word_other (set d (size c) w) (1 + size c) q new_j (λ y. omega arith) ∙ word_other d (size c) q w (λ y. omega arith))
-      (omega (arith, cwidth_tail k)) (omega (arith, cwidth_tail k))
-      (rw (s, two) (cw us low, (rw top (is_jmp _), op)))
-      (λ q l. word_other (set d (size c) w) (1 + size c) q new_j (λ y. omega (arith, cwidth_tail k)) ∙ word_other d (size c) q w (λ y. omega (arith, cwidth_tail k)) ∙ rep_discharge.clean q (omega arith)) rep_discharge k m refl (rw (s, two) top) fr)
-    where
-      zero_head : (t : Bool) → pick t 0 (H m) ≡ 0
-      zero_head true = refl
-      zero_head false = fresh
-
   -- `emit_jump`, difference 1
   module _ (m : ℕ) (nz : m ≡ 0 → ⊥) (fresh : H m ≡ 0) (room : size c < cap) (few : size c < max_words) where
     abbrev c₁ : Code

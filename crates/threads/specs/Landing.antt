@@ -1,5 +1,6 @@
 -- The end of `exp2reg` on represented code: the jumps of both lists land, those with a value behind the loads and those without on the load of false or of true; or all on one place.
 -- The edits of different labels are one edit.
+-- What rests on something that a must-fail edit breaks stands in proofs/Landing.antt.
 use Rattle.std.specs.Prelude.{ℕ, ◌+◌, ◌≤◌, ◌<◌, Bool, true, false, ◌≡◌, List, ◌∷◌, length}
 use Rattle.std.proofs.Math.Path.{refl, ap, sym}
 use Rattle.std.proofs.Common.{◌∙◌, arith}
@@ -12,17 +13,17 @@ use Rattle.model.specs.declared.ExprContext.{ExprContext}
 use Rattle.model.specs.Values.{truth}
 use Rattle.model.specs.Steps.{Buffers, Result, done, Step, and_then, ◌>>=◌, ◌>>◌}
 use Rattle.model.specs.Jumps.{word, concat_jumps, linked, patch_list_aux}
-use Rattle.model.specs.Emission.{with_pc, with_jpc, with_label, emit, patch_to_here, get_label, code_label, concat}
+use Rattle.model.specs.Emission.{with_jpc, with_label, emit, patch_to_here, get_label, code_label, concat}
 use Rattle.model.specs.Discharge.{land as land_both}
-use Rattle.labelled.specs.Code.{same, same_refl, same_ne, same_true, val, PW, setw, lbs, mark, Instr, pl, pwidth, Code, size, Act, keep, land, re, edit}
+use Rattle.labelled.specs.Code.{same, same_refl, same_ne, same_true, val, PW, setw, lbs, Instr, pl, pwidth, Code, size, Act, keep, land, re, edit}
 use Rattle.threads.specs.Edits.{Safe, edit_also, edit_ext, also}
-use Rattle.threads.specs.Places.{is_lab, is_l, look_edit, look_range, lab_land, lab_off}
+use Rattle.threads.specs.Places.{is_lab, is_l, look_range}
 use Rattle.threads.specs.Encoding.{Coding}
 use Rattle.threads.specs.Turns.{opt_r}
 use Rattle.threads.specs.Represents.{set_h}
 use Rattle.threads.specs.Emitting.{on_top}
-use Rattle.threads.specs.Holding.{Ends, gives, ends_then, Holds, kept_trans, Became, with_code, label_is}
-use Rattle.threads.specs.Stepping.{hold_emit, hold_emit₀, hold_here, hold_label, hold_patch, hold_mark, hold_same}
+use Rattle.threads.specs.Holding.{Holds, with_code, label_is}
+use Rattle.threads.specs.Stepping.{hold_here}
 use Rattle.labelled.specs.Machine.{pick}
 use Rattle.labelled.specs.Emission.{here, one}
 use Rattle.labelled.specs.Edits.{size_edit}
@@ -115,58 +116,26 @@ land_edits c t f r final pf pt tf = edit_also (one f (land final (some r) pf)) t
 abbrev pub landed : List ℕ → ExprContext → ℕ → ℕ → ℕ → ℕ → List ℕ
 landed ws e reg final pf pt = patch_list_aux (length (patch_list_aux (length ws) ws e.f final reg pf)) (patch_list_aux (length ws) ws e.f final reg pf) e.t final reg pt
 
-land_is : (e : ExprContext) (reg final pf pt : ℕ) (s : State) (m : Buffers) → land_both e reg final pf pt s m ≡ done tt s (with_code (landed m.code e reg final pf pt) m)
+pub land_is : (e : ExprContext) (reg final pf pt : ℕ) (s : State) (m : Buffers) → land_both e reg final pf pt s m ≡ done tt s (with_code (landed m.code e reg final pf pt) m)
 unfolding land_both and_then
 land_is e reg final pf pt s m = refl
 
 module _ {K : Coding} {cap : ℕ} {s : State} {m : Buffers} {H : ℕ → ℕ} {c : Code} (h : Holds K cap s m H c) (e : ExprContext) (t f : ℕ) (et : e.t ≡ H t) (ef : e.f ≡ H f) (t0 : t ≡ 0 → ⊥) (f0 : f ≡ 0 → ⊥) (tf : t ≡ f → ⊥)
     (reg : ℕ) (rr : reg < no_reg) where
-  opt : opt_r reg ≡ some reg
+  pub opt : opt_r reg ≡ some reg
   opt = rw (same_ne reg no_reg (λ z. omega arith)) refl
 
-  -- both lists land
-  pub hold_land : (final pf pt : ℕ) → final ≤ max_words → pf ≤ max_words → pt ≤ max_words →
-      ((p : ℕ) → is_l f c p ≡ true → (p < final) × (p < pf)) → ((p : ℕ) → is_l t c p ≡ true → (p < final) × (p < pt)) →
-      (land_both e reg final pf pt s m ≡ done tt s (with_code (landed m.code e reg final pf pt) m)) ×
-      Holds K cap s (with_code (landed m.code e reg final pf pt) m) (set_h t 0 (set_h f 0 H)) (edit (lands t f reg final pf pt) c)
-  hold_land final pf pt bv bf bt wf wt =
-      (land_is e reg final pf pt s m, rw (← (land_edits c t f reg final pf pt tf), ef, et) (rw (other, opt) at (hold_patch first t final reg pt t0 (omega arith) bv bt (λ p i. wt p (sym (stays p) ∙ i)))))
-    where
-      first : Holds K cap s (with_code (patch_list_aux (length m.code) m.code (H f) final reg pf) m) (set_h f 0 H) (edit (one f (land final (opt_r reg) pf)) c)
-      first = hold_patch h f final reg pf f0 (omega arith) bv bf wf
-
-      other : set_h f 0 H t ≡ H t
-      other = rw (same_ne t f tf) refl
-
-      stays : (p : ℕ) → is_l t (edit (one f (land final (opt_r reg) pf)) c) p ≡ is_l t c p
-      stays p = look_edit (is_lab t) (is_lab t) (one f (land final (opt_r reg) pf)) (λ i. lab_land f final pf (opt_r reg) t i ∙ lab_off f t (λ z. tf (sym z)) i) c p
-
   -- without loads: all on the word to come, which gets a mark
-  land_all_is : (get_label >>= (λ final. land_both e reg final final final)) s m ≡ done tt (with_label (s.pc + 1) s) (with_code (landed m.code e reg s.pc s.pc s.pc) m)
+  pub land_all_is : (get_label >>= (λ final. land_both e reg final final final)) s m ≡ done tt (with_label (s.pc + 1) s) (with_code (landed m.code e reg s.pc s.pc s.pc) m)
   unfolding land_both and_then
   land_all_is = ap (λ (r : Result ℕ). and_then r (λ final. land_both e reg final final final)) (label_is s m (omega (arith, h.pcs, h.rep.few)))
-
-  pub hold_land_all : ((us : List ℕ) (n : ℕ) → K.plain us n mark) →
-      ((get_label >>= (λ final. land_both e reg final final final)) s m ≡ done tt (with_label (s.pc + 1) s) (with_code (landed m.code e reg s.pc s.pc s.pc) m)) ×
-      Holds K cap (with_label (s.pc + 1) s) (with_code (landed m.code e reg s.pc s.pc s.pc) m) (set_h t 0 (set_h f 0 H)) (pl mark ∷ edit (lands t f reg (size c) (size c) (size c)) c)
-  hold_land_all mk =
-      let few : s.pc ≤ max_words = omega (arith, h.pcs, h.rep.few) in
-      let q = (hold_land s.pc s.pc s.pc few few few (λ p i. let l : p < s.pc = omega (arith, look_range (is_lab f) c p i, h.pcs) in (l, l)) (λ p i. let l : p < s.pc = omega (arith, look_range (is_lab t) c p i, h.pcs) in (l, l))).1 in
-      let z : edit (lands t f reg (size c) (size c) (size c)) c ≡ edit (lands t f reg s.pc s.pc s.pc) c = rw h.pcs refl in
-      (land_all_is, rw z (hold_mark (hold_same q (with_label (s.pc + 1) s) (with_code (landed m.code e reg s.pc s.pc s.pc) m) refl refl refl) (mk _ _)))
 
 -- `code_label` and the loads
 module _ {K : Coding} {cap : ℕ} {s : State} {m : Buffers} {H : ℕ → ℕ} {c : Code} (h : Holds K cap s m H c) (reg b jump : ℕ) (x : PW) (o : pwidth x ≡ 1)
     (pw : (us : List ℕ) (n : ℕ) → word us n ≡ abc_of LoadBool reg b jump → K.plain us n x) where
-  code_label_is : code_label reg b jump s m ≡ emit (abc_of LoadBool reg b jump) (with_label (s.pc + 1) s) m
+  pub code_label_is : code_label reg b jump s m ≡ emit (abc_of LoadBool reg b jump) (with_label (s.pc + 1) s) m
   unfolding code_label and_then
   code_label_is = ap (λ (r : Result ℕ). and_then r (λ _. emit (abc_of LoadBool reg b jump))) (label_is s m (omega (arith, h.pcs, h.rep.few)))
-
-  pub hold_code_label : Ends (code_label reg b jump s m) (λ a s' m'. (a ≡ size c) × Became K cap m (with_pc (s.pc + 1) (with_jpc 0 (with_label (s.pc + 1) s))) (set_h 0 0 H) (pl x ∷ edit (here c) c) s' m')
-  hold_code_label = rw code_label_is (hold_emit (hold_label h).1 x (abc_of LoadBool reg b jump) o (λ us. pw us (size c)))
-
-  pub hold_code_label₀ : H 0 ≡ 0 → Ends (code_label reg b jump s m) (λ a s' m'. (a ≡ size c) × Became K cap m (with_pc (s.pc + 1) (with_jpc 0 (with_label (s.pc + 1) s))) H (pl x ∷ c) s' m')
-  hold_code_label₀ z = rw code_label_is (hold_emit₀ (hold_label h).1 x (abc_of LoadBool reg b jump) o (λ us. pw us (size c)) z)
 
 -- the loads of false and true, the jump over them, and the landings
 abbrev pub both : ExprContext → ℕ → ℕ → Step (Unit {0})
@@ -195,10 +164,6 @@ module _ {K : Coding} {cap : ℕ} {s : State} {m : Buffers} {H : ℕ → ℕ} {c
   kept₁ : (ℓ : ℕ) → (ℓ ≡ 0 → ⊥) → H₁ ℓ ≡ H ℓ
   kept₁ ℓ z = rw (same_ne ℓ 0 z) refl
 
-  -- after the loads
-  abbrev G : ℕ → ℕ
-  G = set_h t 0 (set_h f 0 (set_h 0 (H j) (set_h j 0 H₁)))
-
   module _ (s₂ : State) (m₂ : Buffers) (h₂ : Holds K cap s₂ m₂ H₁ (x₂ ∷ (x₁ ∷ c₁))) where
     abbrev s₃ : State
     s₃ = with_label (s₂.pc + 1) (with_jpc (concat_jumps s₂.jpc over) s₂)
@@ -206,54 +171,32 @@ module _ {K : Coding} {cap : ℕ} {s : State} {m : Buffers} {H : ℕ → ℕ} {c
     abbrev m₃ : Buffers
     m₃ = with_code (linked m₂.code s₂.jpc over) m₂
 
-    finish_is : (pf pt : ℕ) → (patch_to_here over >> (get_label >>= (λ final. land_both e reg final pf pt))) s₂ m₂ ≡ done tt s₃ (with_code (landed m₃.code e reg s₂.pc pf pt) m₃)
+    pub finish_is : (pf pt : ℕ) → (patch_to_here over >> (get_label >>= (λ final. land_both e reg final pf pt))) s₂ m₂ ≡ done tt s₃ (with_code (landed m₃.code e reg s₂.pc pf pt) m₃)
     unfolding patch_to_here concat land_both and_then
     finish_is pf pt =
         ap (λ (r : Result ℕ). and_then r (λ final. land_both e reg final pf pt)) (label_is (with_jpc (concat_jumps s₂.jpc over) s₂) m₃ (omega (arith, h₂.pcs, h₂.rep.few)))
 
-    here₃ : Holds K cap (with_jpc (concat_jumps s₂.jpc over) s₂) m₃ (set_h 0 (H j) (set_h j 0 H₁)) (edit (one j (re 0 false)) (x₂ ∷ (x₁ ∷ c₁)))
+    pub here₃ : Holds K cap (with_jpc (concat_jumps s₂.jpc over) s₂) m₃ (set_h 0 (H j) (set_h j 0 H₁)) (edit (one j (re 0 false)) (x₂ ∷ (x₁ ∷ c₁)))
     here₃ =
         let z : concat_jumps (H₁ 0) (H₁ j) ≡ H j = rw (same_refl 0) (kept₁ j j0) in
         let y : H₁ j ≡ over = kept₁ j j0 ∙ sym ej in
         rw (z, y) at (hold_here h₂ j j0).1
 
-    below : (ℓ p : ℕ) → is_l ℓ (edit (one j (re 0 false)) (x₂ ∷ (x₁ ∷ c₁))) p ≡ true → p < size c
+    pub below : (ℓ p : ℕ) → is_l ℓ (edit (one j (re 0 false)) (x₂ ∷ (x₁ ∷ c₁))) p ≡ true → p < size c
     unfolding edit
     below ℓ p i =
         let d : Code = edit (one j (re 0 false)) c₁ in
         let l : p < size d = look_range (is_lab ℓ) d p (sym (on_top (is_lab ℓ) x₁ d refl p) ∙ sym (on_top (is_lab ℓ) x₂ (x₁ ∷ d) refl p) ∙ i) in
         omega (arith, size_edit (one j (re 0 false)) c₁, size_edit (here c) c)
 
-    at_end : s₂.pc ≡ 2 + size c
+    pub at_end : s₂.pc ≡ 2 + size c
     unfolding size
     at_end = omega (arith, h₂.pcs, size_edit (here c) c)
 
-    few : 2 + size c ≤ max_words
+    pub few : 2 + size c ≤ max_words
     unfolding size
     few = omega (arith, h₂.rep.few, size_edit (here c) c)
 
-    codes : edit (lands t f reg (2 + size c) (size c) (1 + size c)) (edit (one j (re 0 false)) (x₂ ∷ (x₁ ∷ c₁))) ≡ x₂ ∷ (x₁ ∷ edit (pair_g c j t f reg) c)
+    pub codes : edit (lands t f reg (2 + size c) (size c) (1 + size c)) (edit (one j (re 0 false)) (x₂ ∷ (x₁ ∷ c₁))) ≡ x₂ ∷ (x₁ ∷ edit (pair_g c j t f reg) c)
     unfolding edit
     codes = ap (λ (d : Code). x₂ ∷ (x₁ ∷ d)) (sym (land_edits (edit (one j (re 0 false)) c₁) t f reg (2 + size c) (size c) (1 + size c) tf) ∙ pair_edits c j t f reg j0 t0 f0 jt jf tf)
-
-    finished : Holds K cap s₃ (with_code (landed m₃.code e reg s₂.pc (size c) (1 + size c)) m₃) G (x₂ ∷ (x₁ ∷ edit (pair_g c j t f reg) c))
-    finished =
-        let a : e.t ≡ set_h 0 (H j) (set_h j 0 H₁) t = et ∙ rw (same_ne t 0 t0, same_ne t j (λ z. jt (sym z))) refl in
-        let b : e.f ≡ set_h 0 (H j) (set_h j 0 H₁) f = ef ∙ rw (same_ne f 0 f0, same_ne f j (λ z. jf (sym z))) refl in
-        let g : Holds K cap s₃ m₃ (set_h 0 (H j) (set_h j 0 H₁)) (edit (one j (re 0 false)) (x₂ ∷ (x₁ ∷ c₁))) = hold_same here₃ s₃ m₃ refl refl refl in
-        let wf : (p : ℕ) → is_l f (edit (one j (re 0 false)) (x₂ ∷ (x₁ ∷ c₁))) p ≡ true → (p < s₂.pc) × (p < size c) = λ p i. let l : p < size c = below f p i in (omega (arith, at_end), l) in
-        let wt : (p : ℕ) → is_l t (edit (one j (re 0 false)) (x₂ ∷ (x₁ ∷ c₁))) p ≡ true → (p < s₂.pc) × (p < 1 + size c) = λ p i. let l : p < size c = below t p i in (omega (arith, at_end), omega arith) in
-        let z : edit (lands t f reg s₂.pc (size c) (1 + size c)) (edit (one j (re 0 false)) (x₂ ∷ (x₁ ∷ c₁))) ≡ x₂ ∷ (x₁ ∷ edit (pair_g c j t f reg) c) = rw at_end codes in
-        rw z at (hold_land g e t f a b t0 f0 tf reg rr s₂.pc (size c) (1 + size c) (omega (arith, few, at_end)) (omega (arith, few)) (omega (arith, few)) wf wt).1
-
-  -- `load_both`, after the jump over the loads
-  pub hold_both : Ends (both e reg over s m) (λ u s' m'. Became K cap m (with_label (s.pc + 1 + 1 + 1) (with_jpc over (with_pc (s.pc + 1 + 1) s))) G (x₂ ∷ (x₁ ∷ edit (pair_g c j t f reg) c)) s' m')
-  unfolding size
-  hold_both = ends_then (hold_code_label h reg 0 1 (lbs reg false) refl no) (λ pf s₁ m₁ p.
-      ends_then (hold_code_label₀ p.1.holds reg 1 0 (setw reg (val (truth true))) refl yes (rw (same_refl 0) refl)) (λ pt s₂ m₂ q.
-      let n : pt ≡ 1 + size c = q.0 ∙ omega (arith, size_edit (here c) c) in
-      gives tt (s₃ s₂ m₂ q.1.holds) _ (finish_is s₂ m₂ q.1.holds pf pt) (record {
-        state = rw (q.1.state, p.1.state) refl;
-        kept = kept_trans p.1.kept (kept_trans q.1.kept (record { kinds = refl; values = refl; pool = refl }));
-        holds = rw (p.0, n) (finished s₂ m₂ q.1.holds);
-      })))

@@ -1,5 +1,6 @@
 -- The representation: words and list heads represent labelled code where the words encode it and each label's places are a chain from its head. The fuel of a walk never runs out,
 -- since a chain is no longer than the code; and on represented code `patch_list_aux`, `remove_values` and `concat_jumps` are the edits land, re and relabel of one label.
+-- What rests on something that a must-fail edit breaks stands in proofs/Represents.antt.
 use Rattle.std.specs.Prelude.{ℕ, ◌≤◌, ◌<◌, Bool, ◌||◌, ◌≡◌, refl, length}
 use Rattle.std.proofs.Math.Bool.{true, false, or_comm}
 use Rattle.std.proofs.Common.{sym, ◌∙◌, arith, length-append}
@@ -10,7 +11,7 @@ use Rattle.labelled.specs.Code.{same, same_refl, same_ne, same_true, same_false,
 use Rattle.threads.specs.Words.{patch_at, patch_walk, jumped_off, len_jump}
 use Rattle.threads.specs.Places.{ed_i, is_lab, is_l, at_pos, all_pos, mem, count, count_size, all_edit, size_at_pos, width_ed_i, key_ed_i, look_edit, look_or, look_imp, look_apart, look_range, look_none, look_other, count_edit, count_or, lab_re, lab_land, lab_apart, lab_off, lab_gone, lab_kept, lab_both}
 use Rattle.threads.specs.Encoding.{Coding, pend, is_p, lab_pend, EncI, Enc}
-use Rattle.threads.specs.Turns.{opt_r, ret_jump, len_ret, patch_keeps, len_patch, ret_behind, patch_behind, patch_step, strip_step, link_step}
+use Rattle.threads.specs.Turns.{opt_r, ret_jump, len_ret, patch_keeps, len_patch, ret_behind, strip_step, link_step}
 use Rattle.threads.specs.Chains.{bool_clash, NoDup, Chain, Apart, Small, mem_append, nodup_append, chain_in, fold, walk_fold, len_fold, fold_chain, fold_behind, fold_stays, strip_at, strip_fold, jump_chain, join_chain, Joined, stays, sent, join_how, or_true_r}
 use Rattle.labelled.specs.Machine.{pick}
 use Rattle.labelled.specs.Emission.{one}
@@ -51,10 +52,10 @@ module _ {ws : List ℕ} {c : Code} {a g : ℕ} (s : Thr ws c a g) where
   small : size c ≤ max_words → Small s.at
   small f q m = omega (arith, look_range (is_lab a) c q (sym (s.is q) ∙ m))
 
-  below : (q : ℕ) → size c ≤ q → (p : ℕ) → mem p s.at ≡ true → p < q
+  pub below : (q : ℕ) → size c ≤ q → (p : ℕ) → mem p s.at ≡ true → p < q
   below q l p m = omega (arith, look_range (is_lab a) c p (sym (s.is p) ∙ m))
 
-  pended : (p : ℕ) → mem p s.at ≡ true → is_p c p ≡ true
+  pub pended : (p : ℕ) → mem p s.at ≡ true → is_p c p ≡ true
   pended p m = look_imp (is_lab a) pend (lab_pend a) c p (sym (s.is p) ∙ m)
 
   -- after an edit of another label
@@ -70,7 +71,7 @@ module _ {ws : List ℕ} {c : Code} {a g : ℕ} (s : Thr ws c a g) where
 -- the words after a walk
 module _ (K : Coding) (a : Act) (f : List ℕ → ℕ → List ℕ) (len : (ws : List ℕ) (p : ℕ) → length (f ws p) ≡ length ws)
     (Ok : ℕ → Type 0) (step : (ws : List ℕ) (p : ℕ) → p < length ws → Ok p → (c : Code) → Enc K ws c → is_p c p ≡ true → Enc K (f ws p) (at_pos (ed_i a) p c)) where
-  fold_enc : (l : List ℕ) (ws : List ℕ) (c : Code) → size c ≤ length ws → NoDup l → ((p : ℕ) → mem p l ≡ true → is_p c p ≡ true) → ((p : ℕ) → mem p l ≡ true → Ok p) → Enc K ws c → Enc K (fold f l ws) (all_pos (ed_i a) l c)
+  pub fold_enc : (l : List ℕ) (ws : List ℕ) (c : Code) → size c ≤ length ws → NoDup l → ((p : ℕ) → mem p l ≡ true → is_p c p ≡ true) → ((p : ℕ) → mem p l ≡ true → Ok p) → Enc K ws c → Enc K (fold f l ws) (all_pos (ed_i a) l c)
   unfolding fold all_pos
   fold_enc [] ws c z n q o h = h
   fold_enc (p ∷ l) ws c z n q o h = fold_enc l (f ws p) (at_pos (ed_i a) p c) (omega (arith, len ws p, size_at_pos (ed_i a) (width_ed_i a) p c)) n.1
@@ -93,25 +94,15 @@ module _ {K : Coding} {cap : ℕ} {ws : List ℕ} {H : ℕ → ℕ} {c : Code} (
     abbrev pws : List ℕ
     pws = patch_list_aux (length ws) ws (H a) v reg d
 
-    walked : pws ≡ fold (patch_at v reg d) (r.thr a).at ws
+    pub walked : pws ≡ fold (patch_at v reg d) (r.thr a).at ws
     walked = patch_walk v reg d (length ws) ws (H a) ∙ walk_fold (patch_at v reg d) (len_patch v reg d) (patch_keeps v reg d) (length ws) ws (H a) (r.thr a).at (r.thr a).chain (r.thr a).once (fuel a)
 
-    patch_thr : (ℓ : ℕ) (t : Bool) → same ℓ a ≡ t → Thr (fold (patch_at v reg d) (r.thr a).at ws) (edit (one a pact) c) ℓ (pick t 0 (H ℓ))
+    pub patch_thr : (ℓ : ℕ) (t : Bool) → same ℓ a ≡ t → Thr (fold (patch_at v reg d) (r.thr a).at ws) (edit (one a pact) c) ℓ (pick t 0 (H ℓ))
     patch_thr ℓ true e = bare _ (edit (one a pact) c) ℓ (λ p. rw (same_true ℓ a e)
         (look_edit (is_lab a) (λ i. false) (one a pact) (λ i. lab_land a v d (opt_r reg) a i ∙ lab_gone a i) c p ∙ look_none c p))
     patch_thr ℓ false e = let ne : a ≡ ℓ → ⊥ = λ z. same_false ℓ a e (sym z) in
         thr_other (r.thr ℓ) _ (one a pact) (λ i. lab_land a v d (opt_r reg) ℓ i ∙ lab_off a ℓ ne i)
         (fold_chain (patch_at v reg d) (len_patch v reg d) (patch_keeps v reg d) (r.thr a).at ws (H ℓ) (r.thr ℓ).at (apart (r.thr a) (r.thr ℓ) ne) (r.thr ℓ).chain)
-
-    pub rep_patch : Rep K cap pws (set_h a 0 H) (edit (one a pact) c)
-    rep_patch = rw walked (record {
-      enc = rw (all_edit a pact (r.thr a).at c (λ p q. (r.thr a).is p)) at (fold_enc K pact (patch_at v reg d) (len_patch v reg d) (λ p. (p < v) × (p < d)) (λ us p l o. patch_step K v reg d us p l ok o.0 o.1 vb db) (r.thr a).at ws c (omega (arith, r.fits, r.len)) (r.thr a).once (pended (r.thr a)) (λ p m. fwd p (sym ((r.thr a).is p) ∙ m)) r.enc);
-      len = len_fold (patch_at v reg d) (len_patch v reg d) (patch_keeps v reg d) (r.thr a).at ws ∙ r.len;
-      fits = omega (arith, size_edit (one a pact) c, r.fits);
-      few = omega (arith, size_edit (one a pact) c, r.few);
-      thr = λ ℓ. patch_thr ℓ (same ℓ a) refl;
-      clean = λ q l. let h : size c ≤ q = omega (arith, size_edit (one a pact) c) in fold_behind (patch_at v reg d) (patch_behind v reg d) (r.thr a).at ws q (below (r.thr a) q h) ∙ r.clean q h;
-    })
 
   -- remove_values ⇒ edit with re a true
   module _ (a : ℕ) where

@@ -1,5 +1,6 @@
 -- The turns of the walks, each a change of one pending jump's instruction: `patch_list_aux` lets it land, `remove_values` drops its value, and the link of `concat_jumps` is nothing to the code.
 -- The control word of a jump is found by `prev_word`; what else a turn leaves alone is said by `ret_local` and `jumped_off`.
+-- What rests on something that a must-fail edit breaks stands in proofs/Turns.antt.
 use Rattle.std.specs.Prelude.{ℕ, zero, suc, ◌+◌, ◌%◌, ◌≤◌, ◌<◌, Bool, ◌||◌, length, set, eqb}
 use Rattle.std.proofs.Math.Bool.{true, false}
 use Rattle.std.proofs.Math.Path.{◌≡◌, refl}
@@ -168,7 +169,7 @@ module _ (K : Coding) where
         go false true a c = rw c ((x ∙ rw (a, c) refl, h.0.1), (y, tt, omega arith, vb))
         go false false a c = rw c ((x ∙ rw (a, c) refl, omega (arith, same_false reg no_reg a), h.0.1), (y, tt, omega arith, vb))
 
-    patch_turn : (n : ℕ) (i : Instr) → pend i ≡ true → p ≡ tail i + n → ((q : ℕ) → suc q ≡ n → is_test (word ws q) ≡ false) → EncI K ws n i → EncI K us n (ed_i (land v (opt_r reg) d) i)
+    pub patch_turn : (n : ℕ) (i : Instr) → pend i ≡ true → p ≡ tail i + n → ((q : ℕ) → suc q ≡ n → is_test (word ws q) ≡ false) → EncI K ws n i → EncI K us n (ed_i (land v (opt_r reg) d) i)
     patch_turn n (pl w) z e f h = absurd (let y : ◌≡◌ {A = ℕ} 0 1 = cc in omega arith)
     patch_turn n (br c (to q)) z e f h = absurd (let y : ◌≡◌ {A = ℕ} 0 1 = cc in omega arith)
     patch_turn n (br always (lbl ℓ)) z e f h = (tt, (rw (← e) (lone (rw e h.1.0) (λ q y. f q (omega arith))), tt, omega arith, db))
@@ -180,10 +181,6 @@ module _ (K : Coding) where
     patch_turn n (br (cmp o k x y) (lbl ℓ)) z e f h =
         let w : (word us n ≡ word ws n) × (word us p ≡ jmp_to p d) = pair_no n (omega arith) (tests (word ws n) (comparison o) (bit k) h.0.0 h.0.1 h.0.2 (comparison_tests o)) (sets (word ws n) (comparison o) (bit k) h.0.0 h.0.1 false h.0.2 (comparison_keeps_none o)) (rw e h.1.0) in
         ((h.0.0, h.0.1, w.0 ∙ h.0.2, h.0.3, h.0.4, h.0.5), (rw (← e) w.1, tt, omega arith, db))
-
-    -- a turn is the edit of one pending jump
-    pub patch_step : (c : Code) → Enc K ws c → is_p c p ≡ true → Enc K us (at_pos (ed_i (land v (opt_r reg) d)) p c)
-    patch_step = local_step K (ed_i (land v (opt_r reg) d)) (width_ed_i (land v (opt_r reg) d)) ws us p (λ q a b. patch_local v reg d ws p q a b) patch_turn
 
   -- ---- `remove_values`
 

@@ -1,0 +1,10 @@
+pub mod Emission
+pub mod Discharge
+pub mod Operands
+pub mod Conditions
+pub mod Operators
+pub mod Expressions
+pub mod Texts
+pub mod Bounded
+pub mod Suffices
+pub mod Examples
