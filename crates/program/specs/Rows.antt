@@ -28,7 +28,7 @@ use Rattle.model.specs.Reading.{local_named, read_leaf, read_one, read_binary, r
 use Rattle.model.specs.Running.{regs, puts, joined, execute, run_from}
 use Rattle.model.specs.Steps.{and_then}
 use Rattle.model.specs.Values.{compute, negation}
-use Rattle.std.specs.Float.Ieee.{span, climb, size, odd, units, round, neg, sum, add, sub, mul, div, lt, eq, le, ne, of_int, of_fields, of_bits, nan_bits, to_bits, is_nan, fits, whole}
+use Rattle.std.specs.Float.Ieee.{span, climb, size, odd, units, round, neg, sum, add, sub, mul, div, lt, eq, le, ne, of_int, of_fields, of_bits, nan_bits, to_bits, is_nan}
 
 -- 1 + x: hex 00 01 07 08 00 03 02 00 00 00 00 00 00 F0 3F 06 04 01 00 78
 abbrev p1 : List ℕ
