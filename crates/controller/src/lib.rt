@@ -1,4 +1,4 @@
-// The lowering for controllers: one function that C calls (include/fuchsiarasp.h).
+// The lowering for controllers: the one function that C calls (include/fuchsiarasp.h), which crate controller_c exports.
 #![tactic(auto)]
 
 ghost use Rattle.std.specs.Prelude.{◌≡◌, length, set};
@@ -37,8 +37,7 @@ fn tell(answer: Lowered, counts: &mut [u64]) -> u32
 }
 
 // `lower` for C: 0 or the refusal's number; the counts in a buffer of their own, as many of the four as fit.
-#[unsafe(no_mangle)]
-pub extern "C" fn fuchsiarasp_lower(
+pub fn fuchsiarasp_lower(
     chunk: &[u8],
     code: &mut [u32],
     lines: &mut [u32],
