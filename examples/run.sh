@@ -9,8 +9,8 @@ trap 'rm -rf "$out"' EXIT
 if [ "${SKIP_RT:-0}" = 1 ] && [ -f "$archive" ]; then
     echo "examples: SKIP_RT=1, so $archive is taken as it is"
 else
-    echo "examples: waiting for 'rt lib controller_c', which first proves all that is below it: some twenty minutes the first time, seconds after"
-    rt lib controller_c >"$out/log" 2>&1 || { cat "$out/log"; exit 1; }
+    echo "examples: waiting for 'rt lib' in crates/controller_c, which first proves all that is below it: some twenty minutes the first time, seconds after"
+    (cd crates/controller_c && rt lib) >"$out/log" 2>&1 || { cat "$out/log"; exit 1; }
     mkdir -p target/staticlib
     cp crates/controller_c/out/libcontroller_c.a "$archive"
 fi
