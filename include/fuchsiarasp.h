@@ -1,7 +1,7 @@
 /*
  * Pattern formulas (Lua 5.1 expressions) to register code.
  *
- * The archive libcontroller.a (`rt staticlib controller`) defines fuchsiarasp_lower and needs no more than memset and memcpy beside it.
+ * The archive libcontroller.a (made by examples/run.sh) defines fuchsiarasp_lower and needs no more than memset and memcpy beside it.
  * It is for x86-64 Linux. It allocates nothing, keeps nothing between calls and reads and writes only what it is lent and its stack, so
  * calls from several threads with buffers of their own don't meet. A call takes up to about 520 kB of stack (measured: calls nested
  * as arguments to nesting 200; other chunks took less): have 1 MB. Its time grows with nodes times constants: usual chunks take some 50 to 125

@@ -1,5 +1,5 @@
 #!/usr/bin/env python3
-# modtimes.py INCDIR [N]: of a fresh `rt dev`, how long each module took (by when its checked file was written), the N slowest, and sums by function
+# modtimes.py INCDIR [N]: of a fresh `rt check`, whose INCDIR is crates/NAME/out/incremental, how long each module took (by when its checked file was written), the N slowest, and sums by function
 import sys,os,re,collections
 fs=[]
 for r,d,f in os.walk(sys.argv[1]):
@@ -10,7 +10,7 @@ ds=[(b[0]-a[0],b[1]) for a,b in zip(fs,fs[1:])]
 print('total',round(fs[-1][0]-fs[0][0],1))
 by=collections.Counter(); kind=collections.Counter()
 for d,x in ds:
-    m=re.match(r'Rattle·\w+(?:·\w+)?\.(?:proofs|specs)\.([^.]+)\.?(.*)',x)
+    m=re.match(r'Rattle-\w+-(?:proofs|specs)\.([^.]+)\.?(.*)',x)
     by[m.group(1) if m else x]+=d; kind[m.group(2) if m else x]+=d
 for d,x in sorted(ds,reverse=True)[:n]: print(f'{d:6.2f} {x}')
 print('-- by function'); 

@@ -14,7 +14,7 @@ for c in deps:
         for m in re.finditer(r'(?ms)^( *)unfoldable mutual\n(.*?)(?=^\1\S|\Z)',s):
             ns+=re.findall(r'(?m)^'+m.group(1)+r'  pub (\S+) :',m.group(2))
         if not ns: continue
-        pre=f'Rattle·{c}·specs.specs.{mod}' if c==crate else f'Rattle·{c}.specs.{mod}'
+        pre=f'Rattle.{c}.specs.{mod}'
         out=[]
         for n in ns:
             if n in skip: continue
