@@ -22,6 +22,7 @@ for c in deps:
                 al=f'{c}-{n}'; out.append(f'{n} as {al}'); names.append(al)
             else: out.append(n); names.append(n)
         uses.append(f'use {pre}.{{{", ".join(out)}}}')
-uses.append('use lib.Ieee.{span, climb, size, odd, units, round, neg, sum, add, sub, mul, div, lt, eq, le, ne, ofInt, ofFields, ofBits, nanBits, toBits, isNan, fits, whole}')
-names+=['span','climb','size','odd','units','round','neg','sum','add','sub','mul','div','lt','eq','le','ne','ofInt','ofFields','ofBits','nanBits','toBits','isNan']
+ieee='span, climb, size, odd, units, round, neg, sum, add, sub, mul, div, lt, eq, le, ne, of_int, of_fields, of_bits, nan_bits, to_bits, is_nan'
+uses.append('use Rattle.std.specs.Float.Ieee.{'+ieee+'}')
+names+=ieee.split(', ')
 print('\n'.join(uses)); print('unfolding '+' '.join(names))
