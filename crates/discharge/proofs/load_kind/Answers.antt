@@ -1,5 +1,5 @@
 -- `discharge::load_kind` meets its contract, by its kinds (specs/Laws.antt). Assumes nothing.
-use Rattle.std.proofs.Common.{ℕ, ◌≡◌, refl, ◌∙◌, List, [], ◌∷◌, rules}
+use Rattle.std.proofs.Common.{◌≡◌, refl, ◌∙◌, [], ◌∷◌, rules}
 use types.Run.{OneOf}
 use denote.Enum.Declared.{tag_of}
 use Rattle.model.specs.declared.ExprKind.{ExprKind}
