@@ -3,7 +3,7 @@ use Rattle.std.specs.Prelude.{ℕ, ◌+◌, List}
 use Rattle.opcodes.specs.declared.OpCode.TheVariants as op
 use Rattle.chunk.specs.Form.{max_nesting}
 use Rattle.chunk.specs.declared.header.Header.{Header}
-use Rattle.model.specs.Steps.{Step, ◌>>=◌, ◌>>◌, skip}
+use Rattle.model.specs.Steps.{Step, ◌>>◌, skip}
 use Rattle.model.specs.Emission.{emit_abc}
 use Rattle.model.specs.Expressions.{compile_expr}
 use Rattle.model.specs.Lowering.{formulas}
