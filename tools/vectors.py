@@ -18,7 +18,7 @@ for l in open(vec):
     else: cur['lines'].append(int(w[1])); cur['words'].append(int(w[2],16))
 def lst(xs): return '('+' ∷ '.join([str(x) for x in xs]+['[]'])+')'
 src=open(rows,encoding='utf8').read()
-uses='\n'.join(re.findall(r'(?m)^use .*$',src)); unf=max(re.findall(r'(?m)^unfolding .*$',src),key=len).replace(' found','').replace(' more-rows','').replace(' sized','').replace(' nils','').replace(' numbered','').replace(' rows','')
+uses='\n'.join(re.findall(r'(?m)^use .*$',src)); unf=max(re.findall(r'(?m)^unfolding .*$',src),key=len).replace(' found','').replace(' more_rows','').replace(' sized','').replace(' nils','').replace(' numbered','').replace(' rows','')
 head=src[src.index('abbrev weavelist'):src.index('-- ROWS')]
 o=['-- Generated from the oracle\'s vectors.',uses,'',head]
 for i in range(0,len(cases),batch):

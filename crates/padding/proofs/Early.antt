@@ -3,7 +3,6 @@ use Prim.Native.Nat.{ℕ, zero, suc, ◌-◌, ◌/◌, ◌%◌}
 use Rattle.std.specs.Prelude.{Bool, true, false, ◌≡◌, List, length, eqb, leb}
 use Rattle.std.proofs.Math.Path.{refl}
 use Rattle.std.proofs.Common.{subst}
-use Rattle.refusals.specs.Stage.{stage_of, form}
 use Rattle.refusals.specs.declared.Refusal.{Refusal}
 use Rattle.refusals.specs.declared.Refusal.TheVariants as refusal
 use Rattle.cursor.specs.Fields.{byte_at}
@@ -21,7 +20,7 @@ use Rattle.chunk.specs.declared.header.HeaderRead.{HeaderRead}
 use Rattle.chunk.specs.declared.header.HeaderRead.TheVariants as header
 use Rattle.chunk.specs.declared.header.Skipped.{Skipped}
 use Rattle.chunk.specs.declared.header.Skipped.TheVariants as skip
-use Rattle.padding.specs.Early.{OfFormFormed, OfFormFront, OfFormHeader, OfFormNode, OfFormParsed, form_ended, form_exprs, form_fields, form_formulas, form_front, form_rest}
+use Rattle.padding.specs.Early.{OfFormFormed, OfFormFront, OfFormHeader, OfFormNode, OfFormParsed, form_ended, form_exprs, form_fields, form_formulas, form_front, form_rest, stage_of, form}
 
 module _ (s : List ℕ) where
   behind_front : (va : Bool) (f : Front) → OfFormFront f → OfFormNode (with_front f (fields_at s va))

@@ -3,7 +3,7 @@
 use Prim.Native.Nat.{ℕ, zero, suc, ◌+◌, ◌/◌, ◌%◌}
 use Rattle.std.specs.Prelude.{Bool, ◌≡◌, List, length, eqb}
 use Rattle.std.proofs.Math.Path.{refl}
-use Rattle.refusals.specs.Stage.{stage_of, form}
+pub use Rattle.refusals.specs.Stage.{stage_of, form}
 use Rattle.refusals.specs.declared.Refusal.{Refusal}
 use Rattle.cursor.specs.Fields.{byte_at, line_at, bits_at, text_at, end_of}
 use Rattle.ast.specs.Kinds.{kind_of, map_of}
