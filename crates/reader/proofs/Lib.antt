@@ -1,0 +1,3 @@
+pub mod Field
+pub mod Getting
+pub mod Reading
