@@ -1,3 +1,4 @@
 pub mod Operators
 pub mod Kinds
 pub mod Children
+pub mod Refused

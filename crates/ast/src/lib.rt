@@ -6,9 +6,10 @@ ghost use Rattle.ast.specs.Operators.{bin_op_of, un_op_of};
 ghost use Rattle.ast.specs.Kinds.{kind_of, map_of};
 
 use cursor::Text;
+use refusals::Refusal;
 
 // The kinds of node, in the order of their numbers.
-#[derive(Clone, Copy)]
+#[derive(Clone, Copy, Debug, PartialEq, Eq)]
 pub enum Kind {
     Nil,
     True,
@@ -26,61 +27,51 @@ pub enum Kind {
     Paren,
 }
 
-#[derive(Clone, Copy)]
-pub enum KindRead {
-    Unknown,
-    Known(Kind),
+// The kind of a number, 0 to 13; of another the refusal 4.
+impl TryFrom<u8> for Kind {
+    type Error = Refusal;
+
+    ghost try_from_gives = { λ n r. kind_of n ≡ r };
+
+    #[tactic(auto, unfolding(crate::specs::Kinds::kind_of))]
+    fn try_from(n: u8) -> Result<Kind, Refusal> {
+        match n {
+            0 => Ok(Kind::Nil),
+            1 => Ok(Kind::True),
+            2 => Ok(Kind::False),
+            3 => Ok(Kind::Number),
+            4 => Ok(Kind::Str),
+            5 => Ok(Kind::VarArg),
+            6 => Ok(Kind::Name),
+            7 => Ok(Kind::Binary),
+            8 => Ok(Kind::Unary),
+            9 => Ok(Kind::Index),
+            10 => Ok(Kind::Field),
+            11 => Ok(Kind::MethodCall),
+            12 => Ok(Kind::Call),
+            13 => Ok(Kind::Paren),
+            _ => Err(Refusal::Kind),
+        }
+    }
 }
 
 impl Kind {
-    // The kind of a number, 0 to 13.
-    #[tactic(auto, unfolding(crate::specs::Kinds::kind_of))]
-    pub fn from_u8(n: u8) -> KindRead
-        ensures { kind_of n ≡ result }
-    {
-        match n {
-            0 => KindRead::Known(Kind::Nil),
-            1 => KindRead::Known(Kind::True),
-            2 => KindRead::Known(Kind::False),
-            3 => KindRead::Known(Kind::Number),
-            4 => KindRead::Known(Kind::Str),
-            5 => KindRead::Known(Kind::VarArg),
-            6 => KindRead::Known(Kind::Name),
-            7 => KindRead::Known(Kind::Binary),
-            8 => KindRead::Known(Kind::Unary),
-            9 => KindRead::Known(Kind::Index),
-            10 => KindRead::Known(Kind::Field),
-            11 => KindRead::Known(Kind::MethodCall),
-            12 => KindRead::Known(Kind::Call),
-            13 => KindRead::Known(Kind::Paren),
-            _ => KindRead::Unknown,
-        }
-    }
-
     // Bits 1 to 4 of the map that the kind needs, as a number: 1 number, 2 text, 4 operator, 8 argument count.
     pub fn map(self) -> u8
         ensures { map_of self ≡ result }
     {
         match self {
-            Kind::Nil => 0,
-            Kind::True => 0,
-            Kind::False => 0,
+            Kind::Nil | Kind::True | Kind::False | Kind::VarArg | Kind::Index | Kind::Paren => 0,
             Kind::Number => 1,
-            Kind::Str => 2,
-            Kind::VarArg => 0,
-            Kind::Name => 2,
-            Kind::Binary => 4,
-            Kind::Unary => 4,
-            Kind::Index => 0,
-            Kind::Field => 2,
-            Kind::MethodCall => 10,
+            Kind::Str | Kind::Name | Kind::Field => 2,
+            Kind::Binary | Kind::Unary => 4,
             Kind::Call => 8,
-            Kind::Paren => 0,
+            Kind::MethodCall => 10,
         }
     }
 }
 
-#[derive(Clone, Copy)]
+#[derive(Clone, Copy, Debug, PartialEq, Eq)]
 pub enum BinOp {
     Add,
     Sub,
@@ -99,7 +90,7 @@ pub enum BinOp {
     Or,
 }
 
-#[derive(Clone, Copy)]
+#[derive(Clone, Copy, Debug, PartialEq, Eq)]
 pub enum UnOp {
     Neg,
     Not,
@@ -107,7 +98,7 @@ pub enum UnOp {
 }
 
 // No sub-expression.
-#[derive(Clone, Copy)]
+#[derive(Clone, Copy, Debug, PartialEq, Eq)]
 pub enum Leaf {
     Nil,
     True,
@@ -119,7 +110,7 @@ pub enum Leaf {
 }
 
 // One sub-expression.
-#[derive(Clone, Copy)]
+#[derive(Clone, Copy, Debug, PartialEq, Eq)]
 pub enum One {
     Unary(UnOp),
     Field(Text),
@@ -127,21 +118,21 @@ pub enum One {
 }
 
 // Two sub-expressions.
-#[derive(Clone, Copy)]
+#[derive(Clone, Copy, Debug, PartialEq, Eq)]
 pub enum Two {
     Binary(BinOp),
     Index,
 }
 
 // A function or an object, and then arguments.
-#[derive(Clone, Copy)]
+#[derive(Clone, Copy, Debug, PartialEq, Eq)]
 pub enum Many {
     MethodCall(Text),
     Call,
 }
 
 // What a node is, by how many sub-expressions it has; beside `Many` stands the number of arguments.
-#[derive(Clone, Copy)]
+#[derive(Clone, Copy, Debug, PartialEq, Eq)]
 pub enum Head {
     Leaf(Leaf),
     One(One),
@@ -150,63 +141,55 @@ pub enum Head {
 }
 
 // A node without its sub-expressions: `next` is the place behind its own fields, where the first of them stands.
-#[derive(Clone, Copy)]
+#[derive(Clone, Copy, Debug, PartialEq, Eq)]
 pub struct Node {
     pub head: Head,
     pub line: u32,
     pub next: usize,
 }
 
-#[derive(Clone, Copy)]
-pub enum BinOpRead {
-    Unknown,
-    Known(BinOp),
-}
+// The operator of a number, 0 to 14; of another the refusal 4.
+impl TryFrom<u8> for BinOp {
+    type Error = Refusal;
 
-impl BinOp {
-    // The operator of a number, 0 to 14.
+    ghost try_from_gives = { λ n r. bin_op_of n ≡ r };
+
     #[tactic(auto, unfolding(crate::specs::Operators::bin_op_of))]
-    pub fn from_u8(n: u8) -> BinOpRead
-        ensures { bin_op_of n ≡ result }
-    {
+    fn try_from(n: u8) -> Result<BinOp, Refusal> {
         match n {
-            0 => BinOpRead::Known(BinOp::Add),
-            1 => BinOpRead::Known(BinOp::Sub),
-            2 => BinOpRead::Known(BinOp::Mul),
-            3 => BinOpRead::Known(BinOp::Div),
-            4 => BinOpRead::Known(BinOp::Mod),
-            5 => BinOpRead::Known(BinOp::Pow),
-            6 => BinOpRead::Known(BinOp::Concat),
-            7 => BinOpRead::Known(BinOp::Lt),
-            8 => BinOpRead::Known(BinOp::Le),
-            9 => BinOpRead::Known(BinOp::Gt),
-            10 => BinOpRead::Known(BinOp::Ge),
-            11 => BinOpRead::Known(BinOp::Eq),
-            12 => BinOpRead::Known(BinOp::Ne),
-            13 => BinOpRead::Known(BinOp::And),
-            14 => BinOpRead::Known(BinOp::Or),
-            _ => BinOpRead::Unknown,
+            0 => Ok(BinOp::Add),
+            1 => Ok(BinOp::Sub),
+            2 => Ok(BinOp::Mul),
+            3 => Ok(BinOp::Div),
+            4 => Ok(BinOp::Mod),
+            5 => Ok(BinOp::Pow),
+            6 => Ok(BinOp::Concat),
+            7 => Ok(BinOp::Lt),
+            8 => Ok(BinOp::Le),
+            9 => Ok(BinOp::Gt),
+            10 => Ok(BinOp::Ge),
+            11 => Ok(BinOp::Eq),
+            12 => Ok(BinOp::Ne),
+            13 => Ok(BinOp::And),
+            14 => Ok(BinOp::Or),
+            _ => Err(Refusal::Kind),
         }
     }
 }
 
-#[derive(Clone, Copy)]
-pub enum UnOpRead {
-    Unknown,
-    Known(UnOp),
-}
+// The operator of a number, 0 to 2; of another the refusal 4.
+impl TryFrom<u8> for UnOp {
+    type Error = Refusal;
 
-impl UnOp {
-    // The operator of a number, 0 to 2.
+    ghost try_from_gives = { λ n r. un_op_of n ≡ r };
+
     #[tactic(auto, unfolding(crate::specs::Operators::un_op_of))]
-    pub fn from_u8(n: u8) -> UnOpRead
-        ensures { un_op_of n ≡ result }
-    {
+    fn try_from(n: u8) -> Result<UnOp, Refusal> {
         match n {
-            0 => UnOpRead::Known(UnOp::Neg),
-            1 => UnOpRead::Known(UnOp::Not),
-            2 => UnOpRead::Known(UnOp::Len),
-            _ => UnOpRead::Unknown,
+            0 => Ok(UnOp::Neg),
+            1 => Ok(UnOp::Not),
+            2 => Ok(UnOp::Len),
+            _ => Err(Refusal::Kind),
         }
     }
 }

@@ -1,16 +1,14 @@
 -- What emission takes: a price of a word at most for each; constants what they cost, and a constant that is listed nothing; registers and jump lists nothing.
 -- ---- constants
-use Rattle.std.specs.Prelude.{ℕ, ◌+◌, Bool, ◌≡◌, List, drop, leb}
+use Rattle.std.specs.Prelude.{ℕ, ◌+◌, Bool, ◌≡◌, List, drop, leb, Some, None}
 use Rattle.std.proofs.Math.Bool.{true, false}
 use Rattle.std.proofs.Math.Path.{refl}
 use Rattle.std.proofs.Math.ListN.{length}
 use Rattle.constants.specs.Entry.{part, holds}
-use Rattle.constants.specs.Table.{added as added_to, append, find, full}
+use Rattle.constants.specs.Table.{added as added_to, append, find, full, Found}
 use Rattle.constants.specs.Laws.{added_there, added_full, added_new}
 use Rattle.constants.specs.declared.Val.{Val}
 use Rattle.constants.specs.declared.Val.TheVariants as val
-use Rattle.constants.specs.declared.Found.{Found}
-use Rattle.constants.specs.declared.Found.TheVariants.{At, Nothing}
 use Rattle.model.specs.declared.State.{State}
 use Rattle.model.specs.Steps.{Buffers}
 use Rattle.model.specs.Emission.{add_constant}
@@ -31,13 +29,13 @@ module _ (cap : ℕ) (s : State) (m : Buffers) where
     pub fair_added : (chunk : List ℕ) (v : Val) → Fair R cap s (price R v) (added_to chunk s.table v m.kinds m.values m.pool).answer
     fair_added chunk v = search (find (holds m.pool chunk v) s.table.count m.kinds m.values) refl
       where
-        room : find (holds m.pool chunk v) s.table.count m.kinds m.values ≡ Nothing → (b : Bool) → full s.table.count m.kinds m.values ≡ b → Fair R cap s (price R v) (added_to chunk s.table v m.kinds m.values m.pool).answer
+        room : find (holds m.pool chunk v) s.table.count m.kinds m.values ≡ None → (b : Bool) → full s.table.count m.kinds m.values ≡ b → Fair R cap s (price R v) (added_to chunk s.table v m.kinds m.values m.pool).answer
         room e true f = rw (added_full chunk s.table v m.kinds m.values m.pool e refl f refl) (fair_full cap s m R v l f)
         room e false f = rw (added_new chunk s.table v m.kinds m.values m.pool e refl f refl refl) (fair_append chunk v)
 
         search : (f : Found) → find (holds m.pool chunk v) s.table.count m.kinds m.values ≡ f → Fair R cap s (price R v) (added_to chunk s.table v m.kinds m.values m.pool).answer
-        search (At i) e = rw (added_there chunk s.table v m.kinds m.values m.pool e refl) (fair_there cap s m R (price R v) i)
-        search Nothing e = room e (full s.table.count m.kinds m.values) refl
+        search (Some i) e = rw (added_there chunk s.table v m.kinds m.values m.pool e refl) (fair_there cap s m R (price R v) i)
+        search None e = room e (full s.table.count m.kinds m.values) refl
 
 module _ {R : Resource} {cap : ℕ} where
   pub takes_add_constant : (chunk : List ℕ) (v : Val) → Takes R cap (price R v) (add_constant chunk v)

@@ -3,15 +3,15 @@
 use Rattle.std.specs.Prelude.{◌≡◌}
 use Rattle.refusals.specs.declared.Refusal.{Refusal}
 use Rattle.refusals.specs.declared.Refusal.TheVariants as refusal
-use Rattle.model.specs.declared.Lowered.TheVariants as answer
+use Rattle.std.specs.Prelude as answer
 use Rattle.model.specs.Lowering.{lowered}
 use Rattle.model.specs.Rows.{weavelist}
 use Rattle.bound.proofs.Suffices.{suffices, by_length}
 use Rattle.bound.specs.Examples.{for_p1, p1, p1_bytes, p1_counted, p1_lends, p4, p4_bytes, p4_counted, p4_suffices}
 
 -- so it is lowered, or refused with 10
-p1_only_registers : (x : Refusal) → (lowered for_p1 p1).answer ≡ answer.Refused x → x ≡ refusal.Registers
+p1_only_registers : (x : Refusal) → (lowered for_p1 p1).answer ≡ answer.Err x → x ≡ refusal.Registers
 p1_only_registers = suffices for_p1 p1 p1_bytes p1_counted.tree p1_counted.form (by_length for_p1 p1 p1_counted.tree p1_counted.form p1_lends)
 
-p4_only_registers : (x : Refusal) → (lowered weavelist p4).answer ≡ answer.Refused x → x ≡ refusal.Registers
+p4_only_registers : (x : Refusal) → (lowered weavelist p4).answer ≡ answer.Err x → x ≡ refusal.Registers
 p4_only_registers = suffices weavelist p4 p4_bytes p4_counted.tree p4_counted.form p4_suffices

@@ -2,7 +2,7 @@
 -- ---- trees
 use Prim.Native.Nat.{ℕ, zero, suc, ◌+◌, ◌-◌, ◌*◌}
 use Rattle.std.proofs.Math.Path.{◌≡◌, refl, ap}
-use Rattle.std.specs.Prelude.{List}
+use Rattle.std.specs.Prelude.{List, Ok}
 use Rattle.std.proofs.Math.Option.{Option, some, none}
 use native.Mathlib.Omega.{arith}
 use Rattle.constants.specs.declared.Val.TheVariants as val
@@ -19,7 +19,6 @@ use Rattle.ast.specs.declared.Many.{Many}
 use Rattle.ast.specs.declared.Many.TheVariants as many
 use Rattle.ast.specs.declared.Head.{Head}
 use Rattle.ast.specs.declared.Head.TheVariants as head
-use Rattle.nodes.specs.declared.node.NodeRead.TheVariants as read
 use Rattle.chunk.specs.Ast.{Span, Expr, leaf as leaf_node, one as one_node, two as two_node, many as many_node, Exprs, none as no_more, more}
 use Rattle.chunk.specs.Headers.{names_at}
 use Rattle.chunk.specs.Form.{Parsed, parsed, exprs_at, rest, expr_at, names_of, max_nesting}
@@ -161,6 +160,6 @@ module _ {R : Resource} {cap : ℕ} where
     expr_at_lem (suc left) a at line at' line' e s m p q k =
         let v = node_is (node_at chunk hd.varargs at line) _ a at' line' e in
         let n = v.0 in
-        let here : node_at chunk hd.varargs s.at s.line ≡ read.Node n = rw (p, q) v.1.0 in
+        let here : node_at chunk hd.varargs s.at s.line ≡ Ok n = rw (p, q) v.1.0 in
         let same : used R (with_place n.next n.line s) ≡ used R s = used_same R s (with_place n.next n.line s) refl refl in
         rw (expr_is chunk hd left s m n here) (later (head_at (compile_expr chunk hd left) (expr_at chunk hd.varargs left) (expr_at_lem left) (record { line = n.line; place = at; nesting = max_nesting - left }) n.head a n.next n.line at' line' v.1.1 (with_place n.next n.line s) m refl refl k) (omega (arith, same)) refl refl)

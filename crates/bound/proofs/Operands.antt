@@ -1,6 +1,6 @@
 -- What operands take: nil, a truth value or a number may become a constant or go to a register; a number whose constant lies above 255 is listed and then loaded, and the second time it is found, so it costs one entry and not two.
 -- ---- a number that was added is found
-use Rattle.std.specs.Prelude.{ℕ, ◌+◌, max, Bool, ◌≡◌, leb}
+use Rattle.std.specs.Prelude.{ℕ, ◌+◌, max, Bool, ◌≡◌, leb, Some, Ok, Err}
 use Rattle.std.proofs.Math.Bool.{true, false}
 use Rattle.std.proofs.Math.Path.{refl, subst}
 use Rattle.std.proofs.Common.{sym, ap, ◌∙◌, arith}
@@ -8,13 +8,10 @@ use mathlib.Core.List.{List, []}
 use Rattle.refusals.specs.declared.Refusal.TheVariants.{Registers}
 use Rattle.instructions.specs.Limits.{max_index_rk, max_stack}
 use Rattle.constants.specs.Entry.{holds}
-use Rattle.constants.specs.Table.{added as added_to, out, find}
+use Rattle.constants.specs.Table.{added as added_to, out, find, Added}
 use Rattle.constants.specs.declared.Table.{Table}
 use Rattle.constants.specs.declared.Val.{Val}
 use Rattle.constants.specs.declared.Val.TheVariants as val
-use Rattle.constants.specs.declared.Found.TheVariants.{At}
-use Rattle.constants.specs.declared.Added.{Added}
-use Rattle.constants.specs.declared.Added.TheVariants as added
 use Rattle.model.specs.declared.ExprKind.{ExprKind}
 use Rattle.model.specs.declared.ExprKind.TheVariants.{Nil, True, False, K, KNum, Local, Global, Indexed, Jmp, Relocable, NonReloc, Call, VarArg}
 use Rattle.model.specs.declared.ExprContext.{ExprContext}
@@ -37,7 +34,7 @@ module _ (e : ExprContext) where
   num = val.Num e.nval e.bits
 
 module _ {R : Resource} {cap : ℕ} where
-  far_register : (e : ExprContext) (s : State) (m : Buffers) (j : ℕ) → find (holds m.pool [] (num e)) s.table.count m.kinds m.values ≡ At j → has_jumps e ≡ false → Room R cap m → Leaves R cap (per_word R) (used R s) s.at s.line (owes R) (Light R) (exp2anyreg (numeral e) s m)
+  far_register : (e : ExprContext) (s : State) (m : Buffers) (j : ℕ) → find (holds m.pool [] (num e)) s.table.count m.kinds m.values ≡ Some j → has_jumps e ≡ false → Room R cap m → Leaves R cap (per_word R) (used R s) s.at s.line (owes R) (Light R) (exp2anyreg (numeral e) s m)
   unfolding exp2anyreg exp2nextreg exp2reg discharge_kind free_expr and_then
   far_register e s m j f h l = rw (alloc_is s m, reserve_is 1 s m) (go (leb (s.free + 1) max_stack))
     where
@@ -57,7 +54,7 @@ module _ (R : Resource) (cap : ℕ) (e : ExprContext) (p : e.kind ≡ KNum) (h :
   abbrev Adding : Added → List ℕ → List ℕ → List ℕ → Type 0
   Adding r ks vs pool = added_to [] s.table (num e) m.kinds m.values m.pool ≡ out r ks vs pool
 
-  module _ (i : ℕ) (t : Table) (ks vs pool : List ℕ) (q : Adding (added.At i t) ks vs pool) (f : Fair R cap s (per_constant R) (added.At i t)) where
+  module _ (i : ℕ) (t : Table) (ks vs pool : List ℕ) (q : Adding (Ok (i, t)) ks vs pool) (f : Fair R cap s (per_constant R) (Ok (i, t))) where
     abbrev m₁ : Buffers
     m₁ = record { code = m.code; lines = m.lines; kinds = ks; values = vs; pool = pool }
 
@@ -69,8 +66,8 @@ module _ (R : Resource) (cap : ℕ) (e : ExprContext) (p : e.kind ≡ KNum) (h :
 
   brought : (r : Added) (ks vs pool : List ℕ) → Adding r ks vs pool → Fair R cap s (per_constant R) r → Brought (and_then (stored_in s m (out r ks vs pool)) (λ k. near e k))
   unfolding near and_then
-  brought (added.Refused x) ks vs pool q f = none x _ (λ k. f (omega (arith, k, number_brings R cap e p h s m l)))
-  brought (added.At i t) ks vs pool q f = near_or_far i t ks vs pool q f (leb i max_index_rk)
+  brought (Err x) ks vs pool q f = none x _ (λ k. f (omega (arith, k, number_brings R cap e p h s m l)))
+  brought (Ok (i, t)) ks vs pool q f = near_or_far i t ks vs pool q f (leb i max_index_rk)
 
 module _ {R : Resource} {cap : ℕ} where
   spends_number : (e : ExprContext) → e.kind ≡ KNum → has_jumps e ≡ false → Spends R cap (brings R e) (number_constant e >>= (λ k. near e k)) (owes R) (Light R)

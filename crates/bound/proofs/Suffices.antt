@@ -6,7 +6,7 @@ use Rattle.refusals.specs.declared.Refusal.{Refusal}
 use Rattle.refusals.specs.declared.Refusal.TheVariants as refusal
 use Rattle.chunk.specs.Ast.{Chunk}
 use Rattle.chunk.specs.Form.{formed, form_of}
-use Rattle.model.specs.declared.Lowered.TheVariants as answer
+use Rattle.std.specs.Prelude as answer
 use Rattle.model.specs.Claims.{Padded, Bytes}
 use Rattle.model.specs.Lowering.{Sizes, lowered}
 use Rattle.faithful.specs.Accepted.{accepted}
@@ -16,10 +16,10 @@ use Rattle.bound.specs.Bounded.{nodes, Bounded}
 use Rattle.bound.proofs.Bounded.{bounded}
 use Rattle.bound.specs.Suffices.{Lends, Suffices, late, only}
 
-pub suffices : (z : Sizes) (chunk : List ℕ) → Bytes chunk → (c : Chunk) → form_of chunk ≡ formed c → Suffices z chunk c → (x : Refusal) → (lowered z chunk).answer ≡ answer.Refused x → x ≡ refusal.Registers
+pub suffices : (z : Sizes) (chunk : List ℕ) → Bytes chunk → (c : Chunk) → form_of chunk ≡ formed c → Suffices z chunk c → (x : Refusal) → (lowered z chunk).answer ≡ answer.Err x → x ≡ refusal.Registers
 suffices z chunk bytes c form h x e =
-    let d : Padded z chunk (answer.Refused x) (lowered z chunk).buffers (lowered z chunk).scratch = subst (λ r. Padded z chunk r (lowered z chunk).buffers (lowered z chunk).scratch) e (padded z chunk bytes) in
-    let b : Bounded z chunk (answer.Refused x) = subst (Bounded z chunk) e (bounded z chunk) in
+    let d : Padded z chunk (answer.Err x) (lowered z chunk).buffers (lowered z chunk).scratch = subst (λ r. Padded z chunk r (lowered z chunk).buffers (lowered z chunk).scratch) e (padded z chunk bytes) in
+    let b : Bounded z chunk (answer.Err x) = subst (Bounded z chunk) e (bounded z chunk) in
     only z chunk c form h x (late z chunk c form h x d.1.1) (b c form)
 
 -- ---- by the chunk's length alone

@@ -1,21 +1,21 @@
 -- Each node has two bytes at least, and behind them its text; they lie in the chunk one behind the other, so together they are no more than the bytes that were read. By the cases of reading a node, and by induction as it is read.
 use Prim.Native.Nat.{ℕ, zero, suc, ◌+◌, ◌-◌, ◌≤◌}
-use Rattle.std.specs.Prelude.{Bool, List, length}
+use Rattle.std.specs.Prelude.{Bool, List, length, Result, Ok, Err}
 use Rattle.std.proofs.Math.Path.{◌≡◌, subst}
 use native.Mathlib.Omega.{arith}
 use Rattle.nodes.specs.Nodes.{fields_at, front_at, with_front, node_at}
-use Rattle.nodes.specs.declared.node.Front.{Front}
-use Rattle.nodes.specs.declared.node.Front.TheVariants as front
 use Rattle.chunk.specs.Ast.{Expr, Chunk}
 use Rattle.chunk.specs.Form.{parsed, expr_at, max_nesting}
 use Rattle.faithful.specs.Accepted.{Accepted}
 use Rattle.simulation.specs.Parsing.{node_is}
 use Rattle.bound.specs.Texts.{Behind, BehindFront, bytes, bytes_all, earlier, exprs_behind, fields_behind, front_behind, head_behind, own}
+use Rattle.refusals.specs.declared.Refusal.{Refusal}
+use Rattle.nodes.specs.declared.node.Front.{Front}
 
 module _ (s : List ℕ) where
-  behind_front : (va : Bool) (at : ℕ) (f : Front) → BehindFront at f → Behind at (with_front f (fields_at s va))
-  behind_front va at (front.Front k place line) h = earlier s at place (fields_at s va k place line) h (fields_behind s va k place line)
-  behind_front va at (front.Refused x) h = tt
+  behind_front : (va : Bool) (at : ℕ) (f : Result Front Refusal) → BehindFront at f → Behind at (with_front f (fields_at s va))
+  behind_front va at (Ok r) h = earlier s at r.next (fields_at s va r.kind r.next r.line) h (fields_behind s va r.kind r.next r.line)
+  behind_front va at (Err x) h = tt
 
   node_behind : (va : Bool) (at line : ℕ) → Behind at (node_at s va at line)
   unfolding node_at

@@ -16,8 +16,8 @@ use Rattle.ast.specs.declared.Many.{Many}
 use Rattle.ast.specs.declared.Many.TheVariants as many
 use Rattle.chunk.specs.Ast.{Expr, leaf as leaf_node, one as one_node, two as two_node, many as many_node, Exprs, none as no_more, more, Chunk, spans, spans_of}
 use Rattle.chunk.specs.Form.{formed, unformed, form_of}
-use Rattle.model.specs.declared.Lowered.{Lowered}
-use Rattle.model.specs.declared.Lowered.TheVariants as answer
+use Rattle.model.specs.Lowered.{Lowered}
+use Rattle.std.specs.Prelude as answer
 use Rattle.model.specs.Steps.{Result, done, refused}
 use Rattle.model.specs.Lowering.{Sizes, start}
 use Rattle.faithful.specs.Accepted.{Accepted}
@@ -43,8 +43,8 @@ pub record Enough (z : Sizes) (chunk : List ℕ) (c : Chunk) (x : Refusal) : Typ
   pub text : length chunk ≤ z.pool → x ≡ Pool → ⊥
 
 abbrev pub Bounded : Sizes → List ℕ → Lowered → Type 0
-Bounded z chunk (answer.Done k) = (c : Chunk) → form_of chunk ≡ formed c → Needs chunk c k.words k.constants k.text
-Bounded z chunk (answer.Refused x) = (c : Chunk) → form_of chunk ≡ formed c → Enough z chunk c x
+Bounded z chunk (answer.Ok k) = (c : Chunk) → form_of chunk ≡ formed c → Needs chunk c k.words k.constants k.text
+Bounded z chunk (answer.Err x) = (c : Chunk) → form_of chunk ≡ formed c → Enough z chunk c x
 
 -- ---- what trees take, by their nodes: 8 words each, and a text or another constant
 
@@ -102,7 +102,7 @@ module _ (z : Sizes) (chunk : List ℕ) where
     same_chunk c' e = cc
 
   -- a chunk that hasn't the form has no nodes
-  pub no_form : (x : Refusal) → form_of chunk ≡ unformed x → Bounded z chunk (answer.Refused x)
+  pub no_form : (x : Refusal) → form_of chunk ≡ unformed x → Bounded z chunk (answer.Err x)
   no_form x e c f = absurd (let y : ◌≡◌ {A = ℕ} 0 1 = cc in omega arith)
 
   -- a scratch that is too short is refused as such

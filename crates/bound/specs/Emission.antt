@@ -1,6 +1,6 @@
 -- What emission takes: a price of a word at most for each; constants what they cost, and a constant that is listed nothing; registers and jump lists nothing.
 -- What rests on something that a must-fail edit breaks stands in proofs/Emission.antt.
-use Rattle.std.specs.Prelude.{ℕ, ◌+◌, ◌-◌, ◌≤◌, max, Bool, ◌&&◌, ◌≡◌, List, leb, ltb}
+use Rattle.std.specs.Prelude.{ℕ, ◌+◌, ◌-◌, ◌≤◌, max, Bool, ◌&&◌, ◌≡◌, List, leb, ltb, Ok, Err}
 use Rattle.std.proofs.Math.Bool.{true, false}
 use Rattle.std.proofs.Math.Path.{refl}
 use Rattle.std.proofs.Common.{sym, ◌∙◌, arith, length-set, leb-false}
@@ -10,12 +10,10 @@ use Rattle.std.proofs.lemmas.Bool.{lt-leb}
 use Rattle.refusals.specs.declared.Refusal.TheVariants.{Registers, Constants, Pool, Words}
 use Rattle.instructions.specs.Limits.{no_reg, max_words, max_stack, bit_rk, max_constants}
 use Rattle.instructions.specs.Word.{b_of, set_b_of}
-use Rattle.constants.specs.Table.{added as added_to, stored_text, out, full}
+use Rattle.constants.specs.Table.{added as added_to, stored_text, out, full, Added}
 use Rattle.constants.specs.Distinct.{Kept, kept_added}
 use Rattle.constants.specs.declared.Val.{Val}
 use Rattle.constants.specs.declared.Val.TheVariants as val
-use Rattle.constants.specs.declared.Added.{Added}
-use Rattle.constants.specs.declared.Added.TheVariants as added
 use Rattle.model.specs.declared.State.{State}
 use Rattle.model.specs.Steps.{Buffers, done, refused, Step, and_then, change, change_words}
 use Rattle.model.specs.Jumps.{word, remove_values, patch_list_aux}
@@ -40,21 +38,21 @@ one_entry (val.Str s n) = refl
 
 -- the table's answer takes no more than p, and doesn't refuse for want of what fits
 abbrev pub Fair : Resource → ℕ → State → ℕ → Added → Type 0
-Fair R cap s p (added.At i t) = used R (with_table t s) ≤ used R s + p
-Fair R cap s p (added.Refused x) = used R s + p ≤ cap → x ≡ want R → ⊥
+Fair R cap s p (Ok (i, t)) = used R (with_table t s) ≤ used R s + p
+Fair R cap s p (Err x) = used R s + p ≤ cap → x ≡ want R → ⊥
 
 module _ (cap : ℕ) (s : State) (m : Buffers) where
-  pub fair_there : (R : Resource) (p i : ℕ) → Fair R cap s p (added.At i s.table)
+  pub fair_there : (R : Resource) (p i : ℕ) → Fair R cap s p (Ok (i, s.table))
   fair_there words p i = omega arith
   fair_there entries p i = omega arith
   fair_there text p i = omega arith
 
-  pub fair_plain : (R : Resource) (i : ℕ) → Fair R cap s (per_constant R) (added.At i (record { count = s.table.count + 1; used = s.table.used + 0 }))
+  pub fair_plain : (R : Resource) (i : ℕ) → Fair R cap s (per_constant R) (Ok (i, record { count = s.table.count + 1; used = s.table.used + 0 }))
   fair_plain words i = omega arith
   fair_plain entries i = omega arith
   fair_plain text i = omega arith
 
-  pub fair_full : (R : Resource) (v : Val) → Room R cap m → full s.table.count m.kinds m.values ≡ true → Fair R cap s (price R v) (added.Refused Constants)
+  pub fair_full : (R : Resource) (v : Val) → Room R cap m → full s.table.count m.kinds m.values ≡ true → Fair R cap s (price R v) (Err Constants)
   fair_full words v r e = λ h. other Constants Words (λ y. omega (arith, y))
   fair_full text v r e = λ h. other Constants Pool (λ y. omega (arith, y))
   fair_full entries v r e = λ h g.
@@ -72,8 +70,8 @@ module _ (cap : ℕ) (s : State) (m : Buffers) where
 
   module _ (R : Resource) (l : Room R cap m) where
     pub kept_in : (chunk : List ℕ) (v : Val) (p : ℕ) (r : Added) (ks vs pool : List ℕ) → added_to chunk s.table v m.kinds m.values m.pool ≡ out r ks vs pool → Fair R cap s p r → Leaves R cap p (used R s) s.at s.line (λ i. 0) Any (stored_in s m (out r ks vs pool))
-    kept_in chunk v p (added.Refused x) ks vs pool e h = none x _ h
-    kept_in chunk v p (added.At i t) ks vs pool e h =
+    kept_in chunk v p (Err x) ks vs pool e h = none x _ h
+    kept_in chunk v p (Ok (i, t)) ks vs pool e h =
         let k : Kept m.kinds m.values m.pool t ks vs pool = kept_added chunk s.table v m.kinds m.values m.pool e in
         left i (with_table t s) _ tt (omega (arith, h)) refl refl (room_same R cap m _ refl refl k.kinds_length k.values_length k.pool_length l)
 

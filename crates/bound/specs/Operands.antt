@@ -1,6 +1,6 @@
 -- What operands take: nil, a truth value or a number may become a constant or go to a register; a number whose constant lies above 255 is listed and then loaded, and the second time it is found, so it costs one entry and not two.
 -- What rests on something that a must-fail edit breaks stands in proofs/Operands.antt.
-use Rattle.std.specs.Prelude.{ℕ, ◌+◌, ◌<◌, Bool, ◌≡◌, length, get_or, set}
+use Rattle.std.specs.Prelude.{ℕ, ◌+◌, ◌<◌, Bool, ◌≡◌, length, get_or, set, Some, None, Ok, Err}
 use Rattle.std.proofs.Math.Bool.{true, false}
 use Rattle.std.proofs.Math.Path.{refl, subst}
 use Rattle.std.proofs.Common.{sym, ap, ◌∙◌, arith, length-set}
@@ -8,16 +8,12 @@ use mathlib.Core.List.{List, []}
 use Rattle.std.proofs.Math.Option.{some}
 use Rattle.std.proofs.Math.Seq.{get_or-set_same}
 use Rattle.constants.specs.Entry.{number, entry_of, holds}
-use Rattle.constants.specs.Table.{added as added_to, append, out, find, full}
+use Rattle.constants.specs.Table.{added as added_to, append, out, find, full, Found, Added}
 use Rattle.constants.specs.Laws.{holds_false, find_nothing, not_full, added_there, added_full, added_new}
 use Rattle.constants.specs.Distinct.{Kept, kept_added}
 use Rattle.constants.specs.declared.Table.{Table}
 use Rattle.constants.specs.declared.Val.{Val}
 use Rattle.constants.specs.declared.Val.TheVariants as val
-use Rattle.constants.specs.declared.Found.{Found}
-use Rattle.constants.specs.declared.Found.TheVariants.{At, Nothing}
-use Rattle.constants.specs.declared.Added.{Added}
-use Rattle.constants.specs.declared.Added.TheVariants as added
 use Rattle.model.specs.declared.ExprKind.TheVariants.{K, KNum, NonReloc}
 use Rattle.model.specs.declared.ExprContext.{ExprContext}
 use Rattle.model.specs.declared.State.{State}
@@ -33,41 +29,41 @@ use Rattle.bound.specs.Discharge.{load, due, jumps_cost, owes, brings, Light, li
 
 -- the entries of an answer
 abbrev count_in : Added → ℕ
-count_in (added.At i t) = t.count
-count_in (added.Refused x) = 0
+count_in (Ok (i, t)) = t.count
+count_in (Err x) = 0
 
 -- 1 for an answer that isn't a refusal
 abbrev is_at : Added → ℕ
-is_at (added.At i t) = 1
-is_at (added.Refused x) = 0
+is_at (Ok (i, t)) = 1
+is_at (Err x) = 0
 
 module _ (e : ExprContext) where
   abbrev num : Val
   num = val.Num e.nval e.bits
 
   -- the last entry
-  new_found : (count : ℕ) (ks vs pool : List ℕ) → count < length ks → count < length vs → (j : ℕ) × (find (holds pool [] num) (count + 1) (set ks count 3) (set vs count e.bits) ≡ At j)
+  new_found : (count : ℕ) (ks vs pool : List ℕ) → count < length ks → count < length vs → (j : ℕ) × (find (holds pool [] num) (count + 1) (set ks count 3) (set vs count e.bits) ≡ Some j)
   unfolding entry_of
   new_found count ks vs pool k v = go (find (holds pool [] num) (count + 1) (set ks count 3) (set vs count e.bits)) refl
     where
       is_number : entry_of pool (get_or (set ks count 3) count 0) (get_or (set vs count e.bits) count 0) ≡ some (number e.bits)
       is_number = rw (get_or-set_same ks count 3 0 k, get_or-set_same vs count e.bits 0 v) refl
 
-      go : (f : Found) → find (holds pool [] num) (count + 1) (set ks count 3) (set vs count e.bits) ≡ f → (j : ℕ) × (find (holds pool [] num) (count + 1) (set ks count 3) (set vs count e.bits) ≡ At j)
-      go (At j) h = (j, h)
-      go Nothing h = absurd (holds_false pool [] num _ _ (find_nothing (holds pool [] num) (count + 1) (set ks count 3) (set vs count e.bits) h count (omega arith) (omega (arith, length-set ks count 3, k)) (omega (arith, length-set vs count e.bits, v))) is_number)
+      go : (f : Found) → find (holds pool [] num) (count + 1) (set ks count 3) (set vs count e.bits) ≡ f → (j : ℕ) × (find (holds pool [] num) (count + 1) (set ks count 3) (set vs count e.bits) ≡ Some j)
+      go (Some j) h = (j, h)
+      go None h = absurd (holds_false pool [] num _ _ (find_nothing (holds pool [] num) (count + 1) (set ks count 3) (set vs count e.bits) h count (omega arith) (omega (arith, length-set ks count 3, k)) (omega (arith, length-set vs count e.bits, v))) is_number)
 
-  pub listed : (t : Table) (ks vs pool : List ℕ) (i : ℕ) (t' : Table) (ks' vs' pool' : List ℕ) → added_to [] t num ks vs pool ≡ out (added.At i t') ks' vs' pool' → (j : ℕ) × (find (holds pool' [] num) t'.count ks' vs' ≡ At j)
+  pub listed : (t : Table) (ks vs pool : List ℕ) (i : ℕ) (t' : Table) (ks' vs' pool' : List ℕ) → added_to [] t num ks vs pool ≡ out (Ok (i, t')) ks' vs' pool' → (j : ℕ) × (find (holds pool' [] num) t'.count ks' vs' ≡ Some j)
   unfolding append
   listed t ks vs pool i t' ks' vs' pool' h = search (find (holds pool [] num) t.count ks vs) refl
     where
       Goal : Type 0
-      Goal = (j : ℕ) × (find (holds pool' [] num) t'.count ks' vs' ≡ At j)
+      Goal = (j : ℕ) × (find (holds pool' [] num) t'.count ks' vs' ≡ Some j)
 
-      unlisted : find (holds pool [] num) t.count ks vs ≡ Nothing → (b : Bool) → full t.count ks vs ≡ b → Goal
+      unlisted : find (holds pool [] num) t.count ks vs ≡ None → (b : Bool) → full t.count ks vs ≡ b → Goal
       unlisted f true g = absurd (let z : ◌≡◌ {A = ℕ} 0 1 = ap (λ o. is_at o.answer) (sym (added_full [] t num ks vs pool f refl g refl) ∙ h) in omega (arith, z))
       unlisted f false g =
-          let w : out (added.At t.count (record { count = t.count + 1; used = t.used + 0 })) (set ks t.count 3) (set vs t.count e.bits) pool ≡ out (added.At i t') ks' vs' pool' = sym (added_new [] t num ks vs pool f refl g refl refl) ∙ h in
+          let w : out (Ok (t.count, record { count = t.count + 1; used = t.used + 0 })) (set ks t.count 3) (set vs t.count e.bits) pool ≡ out (Ok (i, t')) ks' vs' pool' = sym (added_new [] t num ks vs pool f refl g refl refl) ∙ h in
           let a : t.count + 1 ≡ t'.count = ap (λ o. count_in o.answer) w in
           let b : set ks t.count 3 ≡ ks' = ap (λ o. o.kinds) w in
           let c : set vs t.count e.bits ≡ vs' = ap (λ o. o.values) w in
@@ -75,9 +71,9 @@ module _ (e : ExprContext) where
           rw (sym a, sym b, sym c, sym d) (new_found t.count ks vs pool (not_full t.count ks vs g).0 (not_full t.count ks vs g).1)
 
       search : (f : Found) → find (holds pool [] num) t.count ks vs ≡ f → Goal
-      search Nothing f = unlisted f (full t.count ks vs) refl
-      search (At j) f =
-          let w : out (added.At j t) ks vs pool ≡ out (added.At i t') ks' vs' pool' = sym (added_there [] t num ks vs pool f refl) ∙ h in
+      search None f = unlisted f (full t.count ks vs) refl
+      search (Some j) f =
+          let w : out (Ok (j, t)) ks vs pool ≡ out (Ok (i, t')) ks' vs' pool' = sym (added_there [] t num ks vs pool f refl) ∙ h in
           let a : t.count ≡ t'.count = ap (λ o. count_in o.answer) w in
           let b : ks ≡ ks' = ap (λ o. o.kinds) w in
           let c : vs ≡ vs' = ap (λ o. o.values) w in
@@ -95,7 +91,7 @@ numeral_same e p = ap (λ k. with_kind k e.info e) p
 
 module _ {R : Resource} {cap : ℕ} where
   -- loaded where it is listed
-  pub far_load : (e : ExprContext) (reg : ℕ) (s : State) (m : Buffers) (j : ℕ) → find (holds m.pool [] (num e)) s.table.count m.kinds m.values ≡ At j → Room R cap m → Leaves R cap (per_word R) (used R s) s.at s.line (λ e₁. 0) (Same (numeral e)) (discharge2reg (numeral e) reg s m)
+  pub far_load : (e : ExprContext) (reg : ℕ) (s : State) (m : Buffers) (j : ℕ) → find (holds m.pool [] (num e)) s.table.count m.kinds m.values ≡ Some j → Room R cap m → Leaves R cap (per_word R) (used R s) s.at s.line (λ e₁. 0) (Same (numeral e)) (discharge2reg (numeral e) reg s m)
   unfolding discharge2reg discharge_kind load_kind add_constant and_then
   far_load e reg s m j f l = rw (added_there [] s.table (num e) m.kinds m.values m.pool f refl)
       (later (then_nothing (takes_emit _) (λ _. gives_return (with_kind NonReloc reg (numeral e)) (same_kind NonReloc reg (numeral e) refl refl)) (with_table s.table s) m l) (omega (arith, used_same R s (with_table s.table s) refl refl)) refl refl)
@@ -108,7 +104,7 @@ module _ (R : Resource) (cap : ℕ) (e : ExprContext) (p : e.kind ≡ KNum) (h :
   pub number_brings : brings R e ≡ per_word R + per_constant R
   number_brings = let z : jumps_cost R e ≡ 0 = rw (p, h) refl in omega (arith, z, ap (due R) p, ap (load R) p)
 
-  module _ (i : ℕ) (t : Table) (ks vs pool : List ℕ) (q : Adding (added.At i t) ks vs pool) (f : Fair R cap s (per_constant R) (added.At i t)) where
+  module _ (i : ℕ) (t : Table) (ks vs pool : List ℕ) (q : Adding (Ok (i, t)) ks vs pool) (f : Fair R cap s (per_constant R) (Ok (i, t))) where
     abbrev m₁ : Buffers
     m₁ = record { code = m.code; lines = m.lines; kinds = ks; values = vs; pool = pool }
 

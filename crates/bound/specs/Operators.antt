@@ -1,13 +1,12 @@
 -- What operators take: at most 4 words before the right operand and 8 behind it, and what the operands owe of constants; unary ones 5 words and one constant more. An operand that was brought before costs one word, which is why arithmetic and comparisons may bring it again.
 -- What rests on something that a must-fail edit breaks stands in proofs/Operators.antt.
-use Rattle.std.specs.Prelude.{ℕ, ◌+◌, ◌*◌, ◌≤◌, Bool, ◌&&◌, ◌≡◌, eqb, ltb}
+use Rattle.folding.specs.Numeral.{Fold}
+use Rattle.std.specs.Prelude.{ℕ, ◌+◌, ◌*◌, ◌≤◌, Bool, ◌&&◌, ◌≡◌, eqb, ltb, Some, None}
 use Rattle.std.proofs.Math.Bool.{true}
 use Rattle.std.proofs.Math.Path.{refl}
 use Rattle.std.proofs.Common.{arith, eqb-true}
 use Rattle.laws.specs.Truth.{and_true}
 use Rattle.opcodes.specs.declared.OpCode.{OpCode}
-use Rattle.folding.specs.declared.Fold.{Fold}
-use Rattle.folding.specs.declared.Fold.TheVariants.{Folded, Kept}
 use Rattle.ast.specs.declared.BinOp.{BinOp}
 use Rattle.ast.specs.declared.BinOp.TheVariants as bin
 use Rattle.model.specs.declared.ExprKind.TheVariants.{KNum}
@@ -66,8 +65,8 @@ module _ {R : Resource} {cap : ℕ} where
   -- ---- arithmetic
 
   pub spends_unless_folded : {c : ℕ} (f : Fold) (e : ExprContext) {x : Step ExprContext} → owes R e ≤ c → Spends R cap c x (owes R) Any → Spends R cap c (unless_folded f e x) (owes R) Any
-  spends_unless_folded (Folded n) e h g = at_most (spends_return _ tt) h
-  spends_unless_folded Kept e h g = g
+  spends_unless_folded (Some n) e h g = at_most (spends_return _ tt) h
+  spends_unless_folded None e h g = g
 
   takes_free_in_turn : (a b : ExprContext) → Takes R cap 0 (free_in_turn a b)
   unfolding free_in_turn

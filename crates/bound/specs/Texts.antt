@@ -1,15 +1,13 @@
 -- Each node has two bytes at least, and behind them its text; they lie in the chunk one behind the other, so together they are no more than the bytes that were read. By the cases of reading a node, and by induction as it is read.
 -- What rests on something that a must-fail edit breaks stands in proofs/Texts.antt.
 use Prim.Native.Nat.{ℕ, zero, suc, ◌+◌, ◌*◌, ◌/◌, ◌%◌, ◌≤◌}
-use Rattle.std.specs.Prelude.{Bool, refl, List, length, eqb}
+use Rattle.std.specs.Prelude.{Bool, refl, List, length, eqb, Option, Some, None, Result, Ok, Err}
 use Rattle.std.proofs.Math.Bool.{true, false}
 use Rattle.std.proofs.Math.Path.{◌≡◌, ap}
 use native.Mathlib.Omega.{arith}
 use Rattle.std.proofs.Common.{length-append}
 use Rattle.cursor.specs.Fields.{le2, has_bytes, byte_at, line_at, bits_at, text_at, end_of}
 use Rattle.cursor.specs.declared.Text.{Text}
-use Rattle.cursor.specs.declared.TextRead.{TextRead}
-use Rattle.cursor.specs.declared.TextRead.TheVariants as text_read
 use Rattle.ast.specs.Kinds.{kind_of, map_of}
 use Rattle.ast.specs.Operators.{bin_op_of, un_op_of}
 use Rattle.ast.specs.declared.Kind.{Kind}
@@ -22,15 +20,14 @@ use Rattle.ast.specs.declared.Head.{Head}
 use Rattle.ast.specs.declared.Head.TheVariants as head
 use Rattle.nodes.specs.Nodes.{fields_at, front_at}
 use Rattle.nodes.specs.Reads.{on_byte, on_line, on_bits, on_text, on_kind, on_bin, on_un, on_require, on_test}
-use Rattle.nodes.specs.declared.node.Front.{Front}
-use Rattle.nodes.specs.declared.node.Front.TheVariants as front
-use Rattle.nodes.specs.declared.node.NodeRead.{NodeRead}
-use Rattle.nodes.specs.declared.node.NodeRead.TheVariants as read
 use Rattle.chunk.specs.Ast.{Span, Expr, leaf as leaf_node, one as one_node, two as two_node, many as many_node, Exprs, none as no_more, more, spans, spans_of}
 use Rattle.chunk.specs.Form.{Parsed, parsed, exprs_at, rest}
 use Rattle.simulation.specs.Parsing.{invert, same_parsed}
 use Rattle.bound.specs.Takes.{text}
 use Rattle.bound.specs.Expressions.{own_leaf, own_one, own_many, cost, costs}
+use Rattle.ast.specs.declared.Node.{Node}
+use Rattle.refusals.specs.declared.Refusal.{Refusal}
+use Rattle.nodes.specs.declared.node.Front.{Front}
 
 -- two bytes for each node, and its text
 abbrev pub bytes : Expr → ℕ
@@ -71,25 +68,25 @@ own (head.Two t) = 0
 own (head.Many k n) = own_many text k
 
 -- a node that is read from a place on ends behind its kind, its map and its text
-abbrev pub Behind : ℕ → NodeRead → Type 0
-Behind at (read.Node n) = at + (2 + own n.head) ≤ n.next
-Behind at (read.Refused x) = Unit {0}
+abbrev pub Behind : ℕ → Result Node Refusal → Type 0
+Behind at (Ok n) = at + (2 + own n.head) ≤ n.next
+Behind at (Err x) = Unit {0}
 
 -- and behind its text, from the place of its fields on
-abbrev BehindFields : ℕ → NodeRead → Type 0
-BehindFields at (read.Node n) = at + own n.head ≤ n.next
-BehindFields at (read.Refused x) = Unit {0}
+abbrev BehindFields : ℕ → Result Node Refusal → Type 0
+BehindFields at (Ok n) = at + own n.head ≤ n.next
+BehindFields at (Err x) = Unit {0}
 
-abbrev pub BehindFront : ℕ → Front → Type 0
-BehindFront at (front.Front k place line) = at + 2 ≤ place
-BehindFront at (front.Refused x) = Unit {0}
+abbrev pub BehindFront : ℕ → Result Front Refusal → Type 0
+BehindFront at (Ok r) = at + 2 ≤ r.next
+BehindFront at (Err x) = Unit {0}
 
 module _ (s : List ℕ) where
-  text_behind : (at : ℕ) (t : Text) → text_at s at ≡ text_read.Text t → at + t.len ≤ end_of t
+  text_behind : (at : ℕ) (t : Text) → text_at s at ≡ Some t → at + t.len ≤ end_of t
   unfolding text_at
   text_behind at t e = go (has_bytes s at 2) (has_bytes s (at + 2) (le2 s at)) e
     where
-      go : (x y : Bool) → elim x as (λ (_ : Bool). TextRead) [ true ↦ elim y as (λ (_ : Bool). TextRead) [ true ↦ text_read.Text (record { start = at + 2; len = le2 s at }) | false ↦ text_read.NoText ] | false ↦ text_read.NoText ] ≡ text_read.Text t → at + t.len ≤ end_of t
+      go : (x y : Bool) → elim x as (λ (_ : Bool). Option Text) [ true ↦ elim y as (λ (_ : Bool). Option Text) [ true ↦ Some (record { start = at + 2; len = le2 s at }) | false ↦ None ] | false ↦ None ] ≡ Some t → at + t.len ≤ end_of t
       go true true q = let z : record { start = at + 2; len = le2 s at } ≡ t = cc in omega (arith, ap (λ y. y.start) z)
       go true false q = absurd (let z : ◌≡◌ {A = ℕ} 0 1 = cc in omega arith)
       go false y q = absurd (let z : ◌≡◌ {A = ℕ} 0 1 = cc in omega arith)
@@ -119,9 +116,9 @@ module _ (s : List ℕ) where
       on_require (BehindFront at) _ tt (eqb (m / 2) (map_of k)) _
       (on_test (BehindFront at) (eqb (m % 2) 0) _ _ (omega arith) (on_line (BehindFront at) _ tt (line_at s (at + 2)) _ λ l i. omega arith))
 
-  pub earlier : (at at' : ℕ) (r : NodeRead) → at + 2 ≤ at' → BehindFields at' r → Behind at r
-  earlier at at' (read.Node n) l h = omega (arith, l, h)
-  earlier at at' (read.Refused x) l h = tt
+  pub earlier : (at at' : ℕ) (r : Result Node Refusal) → at + 2 ≤ at' → BehindFields at' r → Behind at r
+  earlier at at' (Ok n) l h = omega (arith, l, h)
+  earlier at at' (Err x) l h = tt
 
   -- ---- trees
 

@@ -1,35 +1,45 @@
 // Lent buffers: clearing them whole. What a buffer holds is a list and then zeros (specs/Pad.antt).
 #![tactic(auto)]
 
-ghost use Rattle.std.specs.Prelude.{◌≡◌, length};
-ghost use Rattle.buffers.specs.Pad.{zeros};
+ghost use Rattle.std.specs.Prelude.{◌≡◌, length, replicate};
 
-pub fn clear_bytes(s: &mut [u8])
-    ensures { zeros (length s.old) ≡ s.new }
-{
-    let mut i = 0;
-    while i < s.len() {
-        s[i] = 0u8;
-        i += 1;
+// What a buffer is lent of: the numbers of 8, 32 and 64 bits, each with its zero.
+pub trait Zero: Copy {
+    ghost zero: { Self };
+
+    fn zero() -> Self
+        ensures { result ≡ zero };
+}
+
+impl Zero for u8 {
+    ghost zero = { 0 };
+
+    fn zero() -> u8 {
+        0u8
     }
 }
 
-pub fn clear_words(s: &mut [u32])
-    ensures { zeros (length s.old) ≡ s.new }
-{
-    let mut i = 0;
-    while i < s.len() {
-        s[i] = 0u32;
-        i += 1;
+impl Zero for u32 {
+    ghost zero = { 0 };
+
+    fn zero() -> u32 {
+        0u32
     }
 }
 
-pub fn clear_values(s: &mut [u64])
-    ensures { zeros (length s.old) ≡ s.new }
+impl Zero for u64 {
+    ghost zero = { 0 };
+
+    fn zero() -> u64 {
+        0u64
+    }
+}
+
+// Of each of these `zeros (length s.old) ≡ s.new`. By index and not `iter_mut`, so that an edit can store at a wrong place and the loop keep its names.
+pub fn clear<T: Zero>(s: &mut [T])
+    ensures { replicate (length s.old) T.zero ≡ s.new }
 {
-    let mut i = 0;
-    while i < s.len() {
-        s[i] = 0u64;
-        i += 1;
+    for i in 0..s.len() {
+        s[i] = T::zero();
     }
 }

@@ -17,7 +17,7 @@ use Rattle.chunk.specs.declared.header.Header.{Header}
 use Rattle.model.specs.declared.ExprKind.TheVariants.{K, Local, Global, Indexed, NonReloc, Call, VarArg}
 use Rattle.model.specs.declared.ExprContext.{ExprContext}
 use Rattle.model.specs.declared.State.{State}
-use Rattle.model.specs.declared.Stepped.{Stepped}
+use Rattle.model.specs.Stepped.{Stepped}
 use Rattle.model.specs.Steps.{Buffers, bufs, Step, Result, done, refused, and_then, ◌>>=◌, ◌>>◌, get, stepped_is}
 use Rattle.model.specs.Descriptor.{new_of, with_kind, is_kind}
 use Rattle.model.specs.Jumps.{word}

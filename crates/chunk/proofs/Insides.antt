@@ -6,6 +6,7 @@ use mathlib.Core.Bool.{Bool}
 use native.Mathlib.Omega.{arith}
 use lib.ListN.{length}
 use lib.Dec.{eqb, leb}
+use Rattle.std.specs.Prelude.{Option, Some, None, Result, Ok, Err}
 use Rattle.ast.specs.Kinds.{kind_of, map_of}
 use Rattle.ast.specs.Operators.{bin_op_of, un_op_of}
 use Rattle.cursor.specs.Fields.{byte_at, line_at, bits_at, text_at, end_of}
@@ -15,36 +16,29 @@ use Rattle.nodes.specs.Reads.{on_byte, on_line, on_bits, on_text, on_kind, on_bi
 use Rattle.chunk.specs.Headers.{names_at, skipped, with_skipped, formulas_at, header_at}
 use Rattle.ast.specs.declared.Kind.{Kind}
 use Rattle.ast.specs.declared.Kind.TheVariants.{Nil, True, False, Number, Str, VarArg, Name, Binary, Unary, Index, Field, MethodCall, Call, Paren}
-use Rattle.nodes.specs.declared.node.Front.{Front}
-use Rattle.nodes.specs.declared.node.Front.TheVariants as front
-use Rattle.nodes.specs.declared.node.NodeRead.{NodeRead}
-use Rattle.nodes.specs.declared.node.NodeRead.TheVariants as read
 use Rattle.nodes.specs.Extents.{extent_of}
 use Rattle.nodes.specs.declared.skip.Extent.{Extent}
-use Rattle.nodes.specs.declared.skip.ExtentRead.{ExtentRead}
-use Rattle.nodes.specs.declared.skip.ExtentRead.TheVariants as extent
 use Rattle.chunk.specs.declared.header.Header.{Header}
-use Rattle.chunk.specs.declared.header.HeaderRead.{HeaderRead}
-use Rattle.chunk.specs.declared.header.HeaderRead.TheVariants as header
-use Rattle.chunk.specs.declared.header.Skipped.{Skipped}
-use Rattle.chunk.specs.declared.header.Skipped.TheVariants as skip
+use Rattle.ast.specs.declared.Node.{Node}
+use Rattle.refusals.specs.declared.Refusal.{Refusal}
+use Rattle.nodes.specs.declared.node.Front.{Front}
 
 -- whatever a node that is read satisfies by its extent; a refusal satisfies all
-abbrev OnExtent : (Extent → Type 0) → ExtentRead → Type 0
-OnExtent P (extent.Extent n) = P n
-OnExtent P (extent.Refused k) = Unit {0}
+abbrev OnExtent : (Extent → Type 0) → Result Extent Refusal → Type 0
+OnExtent P (Ok n) = P n
+OnExtent P (Err k) = Unit {0}
 
-abbrev OnNode : (Extent → Type 0) → NodeRead → Type 0
+abbrev OnNode : (Extent → Type 0) → Result Node Refusal → Type 0
 OnNode P r = OnExtent P (extent_of r)
 
-abbrev OnHeader : (Header → Type 0) → HeaderRead → Type 0
-OnHeader P (header.Header h) = P h
-OnHeader P (header.Refused k) = Unit {0}
+abbrev OnHeader : (Header → Type 0) → Result Header Refusal → Type 0
+OnHeader P (Ok h) = P h
+OnHeader P (Err k) = Unit {0}
 
 -- as the laws of `Reads`, for what a header skips
-on_skipped : {A : Type 0} (P : A → Type 0) (r : A) → P r → (q : Skipped) (f : ℕ → A) → ((p : ℕ) → P (f p)) → P (with_skipped q r f)
-on_skipped P r n skip.Missing f h = n
-on_skipped P r n (skip.To p) f h = h p
+on_skipped : {A : Type 0} (P : A → Type 0) (r : A) → P r → (q : Option ℕ) (f : ℕ → A) → ((p : ℕ) → P (f p)) → P (with_skipped q r f)
+on_skipped P r n None f h = n
+on_skipped P r n (Some p) f h = h p
 
 module _ (s : List ℕ) where
   -- the fields' end is in the bytes, behind their start
@@ -71,14 +65,14 @@ module _ (s : List ℕ) where
   fields_in va Call at line h = on_byte (OnNode (In at)) _ tt (byte_at s at) _ λ n e. (omega arith, byte_inside s at n e)
   fields_in va Paren at line h = (omega arith, h)
 
-  weaker : (a b : ℕ) (r : NodeRead) → b ≤ a → OnNode (In a) r → OnNode (In b) r
-  weaker a b (read.Node n) h i = (omega arith, i.1)
-  weaker a b (read.Refused k) h i = tt
+  weaker : (a b : ℕ) (r : Result Node Refusal) → b ≤ a → OnNode (In a) r → OnNode (In b) r
+  weaker a b (Ok n) h i = (omega arith, i.1)
+  weaker a b (Err k) h i = tt
 
   -- so is the fields' start
-  abbrev FrontIn : ℕ → Front → Type 0
-  FrontIn at (front.Front k from line) = (at ≤ from) × (from ≤ length s)
-  FrontIn at (front.Refused k) = Unit {0}
+  abbrev FrontIn : ℕ → Result Front Refusal → Type 0
+  FrontIn at (Ok r) = (at ≤ r.next) × (r.next ≤ length s)
+  FrontIn at (Err k) = Unit {0}
 
   front_in : (at line : ℕ) → FrontIn (at + 2) (front_at s at line)
   front_in at line =
@@ -90,15 +84,15 @@ module _ (s : List ℕ) where
       (omega arith, omega (arith, byte_inside s (at + 1) m g))
       (on_line (FrontIn (at + 2)) _ tt (line_at s (at + 2)) _ λ l i. (omega arith, omega (arith, line_inside s (at + 2) l i))))
 
-  behind_front : (va : Bool) (at : ℕ) (f : Front) → FrontIn at f → OnNode (In at) (with_front f (fields_at s va))
-  behind_front va at (front.Front k from line) h = weaker from at (fields_at s va k from line) h.0 (fields_in va k from line h.1)
-  behind_front va at (front.Refused k) h = tt
+  behind_front : (va : Bool) (at : ℕ) (f : Result Front Refusal) → FrontIn at f → OnNode (In at) (with_front f (fields_at s va))
+  behind_front va at (Ok r) h = weaker r.next at (fields_at s va r.kind r.next r.line) h.0 (fields_in va r.kind r.next r.line h.1)
+  behind_front va at (Err k) h = tt
 
   node_all : (va : Bool) (at line : ℕ) → OnNode (In (at + 2)) (node_at s va at line)
   unfolding node_at
   node_all va at line = behind_front va (at + 2) (front_at s at line) (front_in at line)
 
-  pub node_in : (va : Bool) (at line : ℕ) (n : Extent) → extent_of (node_at s va at line) ≡ extent.Extent n → (at + 2 ≤ n.next) × (n.next ≤ length s)
+  pub node_in : (va : Bool) (at line : ℕ) (n : Extent) → extent_of (node_at s va at line) ≡ Ok n → (at + 2 ≤ n.next) × (n.next ≤ length s)
   node_in va at line n e = rw e at (node_all va at line)
 
   abbrev HeaderIn : Header → Type 0
@@ -120,5 +114,5 @@ module _ (s : List ℕ) where
       (on_skipped (OnHeader HeaderIn) _ tt (skipped (names_at s n 2)) _ λ p.
       formulas_in n 2 (eqb (m / 2 % 2) 1) p)))
 
-  pub header_in : (h : Header) → header_at s ≡ header.Header h → h.next ≤ length s
+  pub header_in : (h : Header) → header_at s ≡ Ok h → h.next ≤ length s
   header_in h e = rw e at header_all

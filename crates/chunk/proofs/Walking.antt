@@ -8,6 +8,7 @@ use native.Mathlib.Nat.{add_assoc, add-zero}
 use native.Mathlib.Numerals.{add-one}
 use lib.ListN.{length, set, length-append}
 use lib.Seq.{sets}
+use Rattle.std.specs.Prelude.{Result, Ok, Err}
 use Rattle.laws.specs.Stores.{sets_append}
 use Rattle.chunk.specs.Ast.{Span, Expr, one, two, many, Exprs, more, spans, spans_of, places_of}
 use Rattle.ast.specs.Children.{children_of}
@@ -20,13 +21,8 @@ use Rattle.ast.specs.declared.Head.TheVariants as head
 use Rattle.ast.specs.declared.Node.{Node}
 use Rattle.refusals.specs.declared.Refusal.{Refusal}
 use Rattle.refusals.specs.declared.Refusal.TheVariants as refusal
-use Rattle.nodes.specs.declared.node.NodeRead.{NodeRead}
-use Rattle.nodes.specs.declared.node.NodeRead.TheVariants as read
 use Rattle.nodes.specs.declared.skip.Extent.{Extent}
-use Rattle.nodes.specs.declared.skip.ExtentRead.TheVariants as extent
 use Rattle.chunk.specs.declared.form.Walk.{Walk}
-use Rattle.chunk.specs.declared.form.WalkEnd.{WalkEnd}
-use Rattle.chunk.specs.declared.form.WalkEnd.TheVariants as end
 
 places_append : (ss ts : List Span) → places_of (ss ++ ts) ≡ places_of ss ++ places_of ts
 places_append [] ts = refl
@@ -49,17 +45,17 @@ module _ (ss ts : List Span) (n : ℕ) where
 
 -- what is read in two parts, both walked
 module _ {A B : Type 0} (sp : A → List Span) (sq : B → List Span) (ss : List Span) (make : A → B) (is : (a : A) → sq (make a) ≡ ss ++ sp a)
-    (n : ℕ) (s : List ℕ) (R : WalkEnd) (S : List ℕ) where
+    (n : ℕ) (s : List ℕ) (R : Result Walk Refusal) (S : List ℕ) where
   behind : (r : Parsed A) → Walked sp r (n + length ss) (sets s n (places_of ss)) R S
       → Walked sq (with_parsed r (λ a p l. parsed (make a) p l)) n s R S
   behind (refused k) h = h
   behind (parsed a p l) h =
-      rw (is a) (ap end.Done (passed_append ss (sp a) n p l) ∙ h.0, stored_append ss (sp a) n s ∙ h.1)
+      rw (is a) (ap Ok (passed_append ss (sp a) n p l) ∙ h.0, stored_append ss (sp a) n s ∙ h.1)
 
 -- the walks of several expressions
 module _ (f : ℕ → ℕ → Parsed Expr) (at line n : ℕ) (s : List ℕ) where
   -- the first one is walked to v, the others from there on
-  pub more_walked : (k : ℕ) (v : Walk) (s₁ : List ℕ) (R : WalkEnd) (S : List ℕ) → 0 < k → Walked spans (f at line) n s (end.Done v) s₁
+  pub more_walked : (k : ℕ) (v : Walk) (s₁ : List ℕ) (R : Result Walk Refusal) (S : List ℕ) → 0 < k → Walked spans (f at line) n s (Ok v) s₁
       → Walked spans_of (exprs_at f (k - 1) v.at v.line) v.nodes s₁ R S → Walked spans_of (exprs_at f k at line) n s R S
   unfolding exprs_at spans_of
   more_walked zero v s₁ R S h w r = absurd (omega arith)
@@ -67,7 +63,7 @@ module _ (f : ℕ → ℕ → Parsed Expr) (at line n : ℕ) (s : List ℕ) wher
       let e : suc k - 1 ≡ k = omega arith in
       go (f at line) w (subst (λ (j : ℕ). Walked spans_of (exprs_at f j v.at v.line) v.nodes s₁ R S) e r)
     where
-      go : (q : Parsed Expr) → Walked spans q n s (end.Done v) s₁ → Walked spans_of (exprs_at f k v.at v.line) v.nodes s₁ R S
+      go : (q : Parsed Expr) → Walked spans q n s (Ok v) s₁ → Walked spans_of (exprs_at f k v.at v.line) v.nodes s₁ R S
           → Walked spans_of (with_parsed q (λ a p l. with_parsed (exprs_at f k p l) (λ es p₂ l₂. parsed (more a es) p₂ l₂))) n s R S
       go (refused e) w₁ r₁ = absurd (let z : ◌≡◌ {A = ℕ} 0 1 = cc in omega arith)
       go (parsed a p l) w₁ r₁ =
@@ -76,40 +72,40 @@ module _ (f : ℕ → ℕ → Parsed Expr) (at line n : ℕ) (s : List ℕ) wher
           (subst (λ (t : List ℕ). Walked spans_of (exprs_at f k p l) (n + length (spans a)) t R S) (sym w₁.1)
           (subst (λ (u : Walk). Walked spans_of (exprs_at f k u.at u.line) u.nodes s₁ R S) (sym e) r₁))
 
-  pub cut_walked : (k : ℕ) (e : Refusal) (s₁ S : List ℕ) → 0 < k → Walked spans (f at line) n s (end.Refused e) s₁
-      → Walked spans_of (exprs_at f k at line) n s (end.Refused e) S
+  pub cut_walked : (k : ℕ) (e : Refusal) (s₁ S : List ℕ) → 0 < k → Walked spans (f at line) n s (Err e) s₁
+      → Walked spans_of (exprs_at f k at line) n s (Err e) S
   unfolding exprs_at
   cut_walked zero e s₁ S h w = absurd (omega arith)
   cut_walked (suc k) e s₁ S h w = go (f at line) w
     where
-      go : (q : Parsed Expr) → Walked spans q n s (end.Refused e) s₁
-          → Walked spans_of (with_parsed q (λ a p l. with_parsed (exprs_at f k p l) (λ es p₂ l₂. parsed (more a es) p₂ l₂))) n s (end.Refused e) S
+      go : (q : Parsed Expr) → Walked spans q n s (Err e) s₁
+          → Walked spans_of (with_parsed q (λ a p l. with_parsed (exprs_at f k p l) (λ es p₂ l₂. parsed (more a es) p₂ l₂))) n s (Err e) S
       go (refused j) w₁ = w₁
       go (parsed a p l) w₁ = absurd (let z : ◌≡◌ {A = ℕ} 0 1 = cc in omega arith)
 
-  pub none_walked : (k : ℕ) → k ≤ 0 → Walked spans_of (exprs_at f k at line) n s (end.Done (record { at = at; line = line; nodes = n })) s
+  pub none_walked : (k : ℕ) → k ≤ 0 → Walked spans_of (exprs_at f k at line) n s (Ok (record { at = at; line = line; nodes = n })) s
   unfolding exprs_at spans_of
-  none_walked zero h = (ap (λ (k : ℕ). end.Done (record { at = at; line = line; nodes = k })) (add-zero n), refl)
+  none_walked zero h = (ap (λ (k : ℕ). Ok (record { at = at; line = line; nodes = k })) (add-zero n), refl)
   none_walked (suc k) h = absurd (omega arith)
 
 -- a node whose sub-expressions are walked behind it
-module _ (f : ℕ → ℕ → Parsed Expr) (sp : Span) (n : ℕ) (s : List ℕ) (R : WalkEnd) (S : List ℕ) where
+module _ (f : ℕ → ℕ → Parsed Expr) (sp : Span) (n : ℕ) (s : List ℕ) (R : Result Walk Refusal) (S : List ℕ) where
   abbrev Rest : Parsed Exprs → Type 0
   Rest q = Walked spans_of q (n + 1) (set s n sp.place) R S
 
   -- its own place first
-  front : (ss : List Span) (p l : ℕ) → (end.Done (passed p l (n + 1) ss) ≡ R) × (sets (set s n sp.place) (n + 1) (places_of ss) ≡ S)
-      → (end.Done (passed p l n (sp ∷ ss)) ≡ R) × (sets s n (places_of (sp ∷ ss)) ≡ S)
+  front : (ss : List Span) (p l : ℕ) → (Ok (passed p l (n + 1) ss) ≡ R) × (sets (set s n sp.place) (n + 1) (places_of ss) ≡ S)
+      → (Ok (passed p l n (sp ∷ ss)) ≡ R) × (sets s n (places_of (sp ∷ ss)) ≡ S)
   front ss p l h =
       let e : n + suc (length ss) ≡ n + 1 + length ss = omega arith in (
-        ap (λ (k : ℕ). end.Done (record { at = p; line = l; nodes = k })) e ∙ h.0,
+        ap (λ (k : ℕ). Ok (record { at = p; line = l; nodes = k })) e ∙ h.0,
         ap (λ (k : ℕ). sets (set s n sp.place) k (places_of ss)) (sym (add-one n)) ∙ h.1,
       )
 
   -- the same nodes, said in another way
-  like : (ss ts : List Span) (p l : ℕ) → ss ≡ ts → (end.Done (passed p l (n + 1) ss) ≡ R) × (sets (set s n sp.place) (n + 1) (places_of ss) ≡ S)
-      → (end.Done (passed p l n (sp ∷ ts)) ≡ R) × (sets s n (places_of (sp ∷ ts)) ≡ S)
-  like ss ts p l e h = front ts p l (subst (λ (us : List Span). (end.Done (passed p l (n + 1) us) ≡ R) × (sets (set s n sp.place) (n + 1) (places_of us) ≡ S)) e h)
+  like : (ss ts : List Span) (p l : ℕ) → ss ≡ ts → (Ok (passed p l (n + 1) ss) ≡ R) × (sets (set s n sp.place) (n + 1) (places_of ss) ≡ S)
+      → (Ok (passed p l n (sp ∷ ts)) ≡ R) × (sets s n (places_of (sp ∷ ts)) ≡ S)
+  like ss ts p l e h = front ts p l (subst (λ (us : List Span). (Ok (passed p l (n + 1) us) ≡ R) × (sets (set s n sp.place) (n + 1) (places_of us) ≡ S)) e h)
 
   pub rest_walked : (h : Head) (at line : ℕ) → Rest (exprs_at f (children_of h) at line) → Walked spans (rest f sp h at line) n s R S
   unfolding exprs_at rest spans spans_of
@@ -146,7 +142,7 @@ module _ (f : ℕ → ℕ → Parsed Expr) (sp : Span) (n : ℕ) (s : List ℕ) 
 
 -- a node at a place, with nestings left
 module _ (b : List ℕ) (va : Bool) (at line n : ℕ) (s : List ℕ) where
-  pub expr_walked : (left : ℕ) (x : Extent) (R : WalkEnd) (S : List ℕ) → (left ≡ 0 → ⊥) → extent_of (node_at b va at line) ≡ extent.Extent x
+  pub expr_walked : (left : ℕ) (x : Extent) (R : Result Walk Refusal) (S : List ℕ) → (left ≡ 0 → ⊥) → extent_of (node_at b va at line) ≡ Ok x
       → Walked spans_of (exprs_at (expr_at b va (left - 1)) x.children x.next x.line) (n + 1) (set s n at) R S
       → Walked spans (expr_at b va left at line) n s R S
   unfolding expr_at
@@ -159,23 +155,23 @@ module _ (b : List ℕ) (va : Bool) (at line n : ℕ) (s : List ℕ) where
       span : Node → Span
       span nd = record { line = nd.line; place = at; nesting = max_nesting - left }
 
-      go : (r : NodeRead) → extent_of r ≡ extent.Extent x → Walked spans (with_node r (λ nd. rest (expr_at b va left) (span nd) nd.head nd.next nd.line)) n s R S
-      go (read.Node nd) g =
+      go : (r : Result Node Refusal) → extent_of r ≡ Ok x → Walked spans (with_node r (λ nd. rest (expr_at b va left) (span nd) nd.head nd.next nd.line)) n s R S
+      go (Ok nd) g =
           let is : record { children = children_of nd.head; line = nd.line; next = nd.next } ≡ x = cc in
           rest_walked (expr_at b va left) (span nd) n s R S nd.head nd.next nd.line (rw (q, ← is) at w)
-      go (read.Refused k) g = absurd (let y : ◌≡◌ {A = ℕ} 0 1 = cc in omega arith)
+      go (Err k) g = absurd (let y : ◌≡◌ {A = ℕ} 0 1 = cc in omega arith)
 
-  pub unread_walked : (left : ℕ) (k : Refusal) (S : List ℕ) → (left ≡ 0 → ⊥) → extent_of (node_at b va at line) ≡ extent.Refused k
-      → Walked spans (expr_at b va left at line) n s (end.Refused k) S
+  pub unread_walked : (left : ℕ) (k : Refusal) (S : List ℕ) → (left ≡ 0 → ⊥) → extent_of (node_at b va at line) ≡ Err k
+      → Walked spans (expr_at b va left at line) n s (Err k) S
   unfolding expr_at
   unread_walked zero k S h e = absurd (h refl)
   unread_walked (suc left) k S h e = go (node_at b va at line) _ e
     where
-      go : (r : NodeRead) (f : Node → Parsed Expr) → extent_of r ≡ extent.Refused k → Walked spans (with_node r f) n s (end.Refused k) S
-      go (read.Node nd) f g = absurd (let y : ◌≡◌ {A = ℕ} 0 1 = cc in omega arith)
-      go (read.Refused j) f g = let is : j ≡ k = cc in ap end.Refused is
+      go : (r : Result Node Refusal) (f : Node → Parsed Expr) → extent_of r ≡ Err k → Walked spans (with_node r f) n s (Err k) S
+      go (Ok nd) f g = absurd (let y : ◌≡◌ {A = ℕ} 0 1 = cc in omega arith)
+      go (Err j) f g = let is : j ≡ k = cc in ap Err is
 
-  pub deep_walked : (left : ℕ) (S : List ℕ) → left ≡ 0 → Walked spans (expr_at b va left at line) n s (end.Refused refusal.Nesting) S
+  pub deep_walked : (left : ℕ) (S : List ℕ) → left ≡ 0 → Walked spans (expr_at b va left at line) n s (Err refusal.Nesting) S
   unfolding expr_at
   deep_walked zero S e = refl
   deep_walked (suc left) S e = absurd (omega arith)

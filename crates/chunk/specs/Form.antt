@@ -1,5 +1,5 @@
 -- The form of a chunk (document 01, "The chunk"; refusals 1 to 8): from bytes to nodes, or the first refusal. Assumes nothing.
-use Rattle.std.specs.Prelude.{ℕ, zero, suc, ◌-◌, List, [], Bool, true, false, length, eqb, leb}
+use Rattle.std.specs.Prelude.{ℕ, zero, suc, ◌-◌, List, [], Bool, true, false, length, eqb, leb, Result, Ok, Err}
 use Rattle.refusals.specs.declared.Refusal.{Refusal}
 use Rattle.refusals.specs.declared.Refusal.TheVariants as refusal
 use Rattle.chunk.specs.Ast.{Span, Expr, leaf, one, two, many, Exprs, none, more, Chunk}
@@ -9,11 +9,7 @@ use Rattle.ast.specs.declared.Head.{Head}
 use Rattle.ast.specs.declared.Head.TheVariants as head
 use Rattle.ast.specs.declared.Node.{Node}
 use Rattle.cursor.specs.declared.Text.{Text}
-use Rattle.nodes.specs.declared.node.NodeRead.{NodeRead}
-use Rattle.nodes.specs.declared.node.NodeRead.TheVariants as node
 use Rattle.chunk.specs.declared.header.Header.{Header}
-use Rattle.chunk.specs.declared.header.HeaderRead.{HeaderRead}
-use Rattle.chunk.specs.declared.header.HeaderRead.TheVariants as header
 
 -- the bytes of the longest chunk
 abbrev pub max_length : ℕ
@@ -53,9 +49,9 @@ rest f s (head.Many m n) at line =
     with_parsed (exprs_at f n at₁ line₁) λ es at₂ line₂.
     parsed (many s m a es) at₂ line₂
 
-abbrev pub with_node : NodeRead → (Node → Parsed Expr) → Parsed Expr
-with_node (node.Node n) f = f n
-with_node (node.Refused k) f = refused k
+abbrev pub with_node : Result Node Refusal → (Node → Parsed Expr) → Parsed Expr
+with_node (Ok n) f = f n
+with_node (Err k) f = refused k
 
 -- the expression at a place, with `left` nestings left for it; `line` is that of the node before
 unfoldable pub expr_at : List ℕ → Bool → ℕ → ℕ → ℕ → Parsed Expr
@@ -69,9 +65,9 @@ pub data Formed : Type 0 where
   formed : Chunk → Formed
   unformed : Refusal → Formed
 
-abbrev pub with_header : HeaderRead → (Header → Formed) → Formed
-with_header (header.Header h) f = f h
-with_header (header.Refused k) f = unformed k
+abbrev pub with_header : Result Header Refusal → (Header → Formed) → Formed
+with_header (Ok h) f = f h
+with_header (Err k) f = unformed k
 
 abbrev pub with_exprs : Parsed Exprs → (Exprs → ℕ → Formed) → Formed
 with_exprs (parsed es at line) f = f es at

@@ -1,13 +1,11 @@
 -- The header of a chunk and its refusals in the order in which its bytes are met (document 01, "The chunk"). Assumes nothing.
-use Rattle.std.specs.Prelude.{ℕ, zero, suc, ◌+◌, ◌/◌, ◌%◌, List, [], ◌∷◌, Bool, true, false, eqb, leb}
+use Rattle.std.specs.Prelude.{ℕ, zero, suc, ◌+◌, ◌/◌, ◌%◌, List, [], ◌∷◌, Bool, true, false, eqb, leb, Option, Some, None, Result, Ok, Err}
 use Rattle.refusals.specs.declared.Refusal.TheVariants as refusal
 use Rattle.cursor.specs.Fields.{byte_at, text_at, end_of}
 use Rattle.nodes.specs.Nodes.{with_byte, with_text, require}
 use Rattle.cursor.specs.declared.Text.{Text}
-use Rattle.chunk.specs.declared.header.HeaderRead.{HeaderRead}
-use Rattle.chunk.specs.declared.header.HeaderRead.TheVariants as read
-use Rattle.chunk.specs.declared.header.Skipped.{Skipped}
-use Rattle.chunk.specs.declared.header.Skipped.TheVariants as skip
+use Rattle.refusals.specs.declared.Refusal.{Refusal}
+use Rattle.chunk.specs.declared.header.Header.{Header}
 
 -- LUAI_MAXVARS: the most locals
 abbrev pub max_locals : ℕ
@@ -28,29 +26,29 @@ names_at s zero at = names [] at
 names_at s (suc n) at = with_text (text_at s at) missing λ t. before t (names_at s n (end_of t))
 
 -- the place behind the names
-abbrev pub skipped : Names → Skipped
-skipped (names ts at) = skip.To at
-skipped missing = skip.Missing
+abbrev pub skipped : Names → Option ℕ
+skipped (names ts at) = Some at
+skipped missing = None
 
-abbrev pub with_skipped : {A : Type 0} → Skipped → A → (ℕ → A) → A
-with_skipped skip.Missing r f = r
-with_skipped (skip.To at) r f = f at
+abbrev pub with_skipped : {A : Type 0} → Option ℕ → A → (ℕ → A) → A
+with_skipped None r f = r
+with_skipped (Some at) r f = f at
 
 -- the formula count
-unfoldable pub formulas_at : List ℕ → ℕ → ℕ → Bool → ℕ → HeaderRead
+unfoldable pub formulas_at : List ℕ → ℕ → ℕ → Bool → ℕ → Result Header Refusal
 formulas_at s locals place varargs at =
-    with_byte (byte_at s at) (read.Refused refusal.Missing) λ n.
-    read.Header (record { locals = locals; names = place; varargs = varargs; formulas = n; next = at + 1 })
+    with_byte (byte_at s at) (Err refusal.Missing) λ n.
+    Ok (record { locals = locals; names = place; varargs = varargs; formulas = n; next = at + 1 })
 
 -- map byte; bit 0: a count of at most 200 and the names; bit 1: varargs; the formula count
-unfoldable pub header_at : List ℕ → HeaderRead
+unfoldable pub header_at : List ℕ → Result Header Refusal
 header_at s =
-    with_byte (byte_at s 0) (read.Refused refusal.Missing) λ m.
-    require (leb m 3) (read.Refused refusal.Map) λ _.
+    with_byte (byte_at s 0) (Err refusal.Missing) λ m.
+    require (leb m 3) (Err refusal.Map) λ _.
     elim (eqb (m % 2) 0) [
       | true ↦ formulas_at s 0 1 (eqb (m / 2 % 2) 1) 1
-      | false ↦ with_byte (byte_at s 1) (read.Refused refusal.Missing) λ n.
-          require (leb n max_locals) (read.Refused refusal.Locals) λ _.
-          with_skipped (skipped (names_at s n 2)) (read.Refused refusal.Missing) λ at.
+      | false ↦ with_byte (byte_at s 1) (Err refusal.Missing) λ n.
+          require (leb n max_locals) (Err refusal.Locals) λ _.
+          with_skipped (skipped (names_at s n 2)) (Err refusal.Missing) λ at.
           formulas_at s n 2 (eqb (m / 2 % 2) 1) at
     ]

@@ -4,14 +4,14 @@
 ghost use Rattle.std.specs.Prelude.{◌≡◌};
 ghost use Rattle.chunk.specs.Headers.{names_at, skipped, header_at, formulas_at};
 
-use cursor::{ByteRead, TextRead};
+use reader::reader_at;
 use refusals::Refusal;
 
 // The most locals (rilua's instructions.rs; document 01, refusal 6).
 pub const LUAI_MAXVARS: u8 = 200;
 
 // How many locals there are and where their names stand, the varargs bit, the number of formulas and the place of the first one.
-#[derive(Clone, Copy)]
+#[derive(Clone, Copy, Debug, PartialEq, Eq)]
 pub struct Header {
     pub locals: usize,
     pub names: usize,
@@ -20,72 +20,61 @@ pub struct Header {
     pub next: usize,
 }
 
-#[derive(Clone, Copy)]
-pub enum HeaderRead {
-    Refused(Refusal),
-    Header(Header),
-}
-
-#[derive(Clone, Copy)]
-pub enum Skipped {
-    To(usize),
-    Missing,
-}
-
 // The place behind `count` names.
-fn skip_names(chunk: &[u8], count: usize, at: usize) -> Skipped
+fn skip_names(chunk: &[u8], count: usize, at: usize) -> Option<usize>
     ensures { skipped (names_at chunk.now count at) ≡ result }
 {
-    let mut left = count;
     let mut next = at;
-    while 0 < left {
-        let TextRead::Text(t) = reader::read_text(chunk, next) else {
-            return Skipped::Missing;
-        };
+    for _ in 0..count {
+        let t = reader_at(chunk, next).get_text()?;
         next = t.start + t.len;
-        left -= 1;
     }
-    Skipped::To(next)
+    Some(next)
 }
 
 // The number of formulas, which stands behind the names.
-fn read_formulas(chunk: &[u8], locals: usize, names: usize, varargs: bool, at: usize) -> HeaderRead
+fn read_formulas(
+    chunk: &[u8],
+    locals: usize,
+    names: usize,
+    varargs: bool,
+    at: usize,
+) -> Result<Header, Refusal>
     ensures { formulas_at chunk.now locals names varargs at ≡ result }
 {
-    let ByteRead::Byte(n) = reader::read_byte(chunk, at) else {
-        return HeaderRead::Refused(Refusal::Missing);
-    };
-    HeaderRead::Header(Header {
+    let n = reader_at(chunk, at).get_byte().ok_or(Refusal::Missing)?;
+    Ok(Header {
         locals,
         names,
         varargs,
-        formulas: n as usize,
+        formulas: usize::from(n),
         next: at + 1,
     })
 }
 
-pub fn read_header(chunk: &[u8]) -> HeaderRead
+pub fn read_header(chunk: &[u8]) -> Result<Header, Refusal>
     ensures { header_at chunk.now ≡ result }
 {
-    let ByteRead::Byte(map) = reader::read_byte(chunk, 0) else {
-        return HeaderRead::Refused(Refusal::Missing);
-    };
+    let map = reader_at(chunk, 0).get_byte().ok_or(Refusal::Missing)?;
     if 3 < map {
-        return HeaderRead::Refused(Refusal::Map);
+        return Err(Refusal::Map);
     }
     let varargs = 2 <= map;
     if map % 2 == 0 {
         return read_formulas(chunk, 0, 1, varargs, 1);
     }
-    let ByteRead::Byte(count) = reader::read_byte(chunk, 1) else {
-        return HeaderRead::Refused(Refusal::Missing);
-    };
+    let count = reader_at(chunk, 1).get_byte().ok_or(Refusal::Missing)?;
     if LUAI_MAXVARS < count {
-        return HeaderRead::Refused(Refusal::Locals);
+        return Err(Refusal::Locals);
     }
-    let locals = count as usize;
-    let Skipped::To(end) = skip_names(chunk, locals, 2) else {
-        return HeaderRead::Refused(Refusal::Missing);
-    };
+    let locals = usize::from(count);
+    let end = skip_names(chunk, locals, 2).ok_or(Refusal::Missing)?;
     read_formulas(chunk, locals, 2, varargs, end)
+}
+
+// A chunk whose header is read: what the lowering reads of it.
+#[derive(Clone, Copy)]
+pub struct Source<'a> {
+    pub bytes: &'a [u8],
+    pub header: Header,
 }

@@ -1,30 +1,31 @@
--- What the code's proofs cite: one step of each loop and each way out of it (bytes compared, entries searched, bytes stored from an index on), and one law for each answer of `find`, `append` and `store_text`.
+-- What the code's proofs cite: one step of each loop and each way out of it (bytes compared, entries searched), and one law for each answer of `find`, `append` and `store_text`.
 -- Each holds by the definition, at the list's next element or at the constant's case. Assumes nothing.
+use Rattle.std.specs.Prelude.{Some, None, Err}
 use mathlib.Core.Path.{◌≡◌, refl, sym, ap, ◌∙◌, fun_ext}
 use mathlib.Core.Bool.{Bool, true, false, ◌&&◌, and-true, and-false, false≢true}
 use mathlib.Core.List.{List, [], ◌∷◌}
 use Prim.Native.Nat.{ℕ, zero, suc, ◌+◌, ◌*◌, ◌-◌, ◌/◌, ◌%◌, ◌≤◌, ◌<◌, min}
 use native.Mathlib.Nat.{zero-min, min-zero}
-use native.Mathlib.Numerals.{add-one}
 use native.Mathlib.Omega.{arith}
-use lib.ListN.{length, get_or, take, drop, set, drop_of_length-le, length-drop}
+use lib.ListN.{length, get_or, take, drop, drop_of_length-le, length-drop}
 use lib.Seq.{drop-cons, take-nil, take_all, length-take-le, get_or-take, get_or-drop, sets}
 use lib.Dec.{eqb, leb}
 use borrow.Author.Count.{below_more}
 use borrow.Author.Tests.{eqb-true, eqb-false, eq-eqb, le-leb, leb-true, leb-false}
+use mathlib.Core.Bool.{cond}
+use lib.Dec.{ltb}
+use borrow.Author.Tests.{ltb-true, ltb-false, lt-ltb, le-ltb}
+use Rattle.std.specs.Prelude.{position}
+use Rattle.std.specs.List.{position_or_len}
 use Rattle.laws.specs.Truth.{or_false}
 use Rattle.refusals.specs.declared.Refusal.TheVariants.{Pool}
 use Rattle.constants.specs.declared.Val.{Val}
 use Rattle.constants.specs.declared.Val.TheVariants as val
 use Rattle.constants.specs.declared.Table.{Table}
-use Rattle.constants.specs.declared.Found.{Found}
-use Rattle.constants.specs.declared.Found.TheVariants.{At, Nothing}
-use Rattle.constants.specs.declared.Added.{Added}
-use Rattle.constants.specs.declared.Added.TheVariants as AddedVariants
 use Rattle.constants.specs.Entry.{Constant, truth, constant_of, entry_of, is_constant, same, same_bytes, holds, kind_of}
 use Rattle.constants.specs.Fours.{four_of, FourBytes, in_four, Without}
 use Rattle.constants.specs.Texts.{tail_of, ends_alike}
-use Rattle.constants.specs.Table.{find, later, stored, stored_text, append, out}
+use Rattle.constants.specs.Table.{find, later, stored, stored_text, append, out, Found, Added}
 use Rattle.constants.specs.Laws.{same_bytes_refl, same_bytes_false, find_hit, find_miss, find_at, other_kind}
 
 -- ---- bytes compared
@@ -159,7 +160,7 @@ Passed p ks ws i = (j : ℕ) → j < i → p (get_or ks j 0) (get_or ws j 0) ≡
 
 module _ (p : ℕ → ℕ → Bool) where
   -- the two ways out of a loop over the entries
-  pub found_first : (n : ℕ) (ks ws : List ℕ) (i : ℕ) → i < n → n ≤ length ks → n ≤ length ws → Passed p ks ws i → p (get_or ks i 0) (get_or ws i 0) ≡ true → find p n ks ws ≡ At i
+  pub found_first : (n : ℕ) (ks ws : List ℕ) (i : ℕ) → i < n → n ≤ length ks → n ≤ length ws → Passed p ks ws i → p (get_or ks i 0) (get_or ws i 0) ≡ true → find p n ks ws ≡ Some i
   found_first zero ks ws i m h g passed e = absurd (omega arith)
   found_first (suc n) [] ws i m h g passed e = absurd (omega arith)
   found_first (suc n) (k ∷ ks) [] i m h g passed e = absurd (omega arith)
@@ -167,12 +168,12 @@ module _ (p : ℕ → ℕ → Bool) where
   found_first (suc n) (k ∷ ks) (w ∷ ws) (suc i) m h g passed e =
       find_miss p n k w ks ws (passed 0 (omega arith)) ∙ ap later (found_first n ks ws i (omega arith) (omega arith) (omega arith) (λ j l. passed (suc j) (omega arith)) e)
 
-  pub found_nowhere : (n : ℕ) (ks ws : List ℕ) (i : ℕ) → n ≤ i → Passed p ks ws i → find p n ks ws ≡ Nothing
+  pub found_nowhere : (n : ℕ) (ks ws : List ℕ) (i : ℕ) → n ≤ i → Passed p ks ws i → find p n ks ws ≡ None
   found_nowhere n ks ws i m passed = answer (find p n ks ws) refl
     where
-      answer : (f : Found) → find p n ks ws ≡ f → f ≡ Nothing
-      answer (At j) e = let at = find_at p n ks ws j e in absurd (false≢true (sym (passed j (omega arith)) ∙ at.meets))
-      answer Nothing e = refl
+      answer : (f : Found) → find p n ks ws ≡ f → f ≡ None
+      answer (Some j) e = let at = find_at p n ks ws j e in absurd (false≢true (sym (passed j (omega arith)) ∙ at.meets))
+      answer None e = refl
 
   -- a search goes no further than the shorter list
   find_shorter : (count : ℕ) (ks ws : List ℕ) → find p count ks ws ≡ find p (min count (min (length ks) (length ws))) ks ws
@@ -182,22 +183,34 @@ module _ (p : ℕ → ℕ → Bool) where
   find_shorter (suc n) (k ∷ ks) [] = rw (min-zero, min-zero)
   find_shorter (suc n) (k ∷ ks) (w ∷ ws) =
       let e : min (suc n) (min (suc (length ks)) (suc (length ws))) ≡ suc (min n (min (length ks) (length ws))) = omega arith in
-      rw e (ap (λ f. elim (p k w) [ true ↦ At 0 | false ↦ later f ]) (find_shorter n ks ws))
+      rw e (ap (λ f. elim (p k w) [ true ↦ Some 0 | false ↦ later f ]) (find_shorter n ks ws))
+
+-- a search that asks for the kind alone is a position among the kinds
+position_later : (p : ℕ → Bool) (k : ℕ) (xs : List ℕ) → p k ≡ false → position p (k ∷ xs) ≡ later (position p xs)
+position_later p k xs e = rw e (go (ltb (position_or_len p xs) (length xs)) refl)
+  where
+    go : (t : Bool) → ltb (position_or_len p xs) (length xs) ≡ t → cond (ltb (1 + position_or_len p xs) (suc (length xs))) (Some (1 + position_or_len p xs)) None ≡ later (cond t (Some (position_or_len p xs)) None)
+    go true q = let r : ltb (1 + position_or_len p xs) (suc (length xs)) ≡ true = lt-ltb _ _ (omega (arith, ltb-true _ _ q)) in rw r (ap Some (omega arith))
+    go false q = let r : ltb (1 + position_or_len p xs) (suc (length xs)) ≡ false = le-ltb _ _ (omega (arith, ltb-false _ _ q)) in rw r refl
+
+kind_position : (p : ℕ → Bool) (n : ℕ) (ks ws : List ℕ) → n ≤ length ks → n ≤ length ws → find (λ k w. p k) n ks ws ≡ position p (take n ks)
+unfolding find
+kind_position p zero ks ws h g = refl
+kind_position p (suc n) [] ws h g = absurd (omega arith)
+kind_position p (suc n) (k ∷ ks) [] h g = absurd (omega arith)
+kind_position p (suc n) (k ∷ ks) (w ∷ ws) h g = go (p k) refl (kind_position p n ks ws (omega arith) (omega arith))
+  where
+    go : (t : Bool) → p k ≡ t → find (λ k w. p k) n ks ws ≡ position p (take n ks) → find (λ k w. p k) (suc n) (k ∷ ks) (w ∷ ws) ≡ position p (k ∷ take n ks)
+    go true e i = let r : ltb 0 (suc (length (take n ks))) ≡ true = lt-ltb _ _ (omega arith) in find_hit (λ k w. p k) n k w ks ws e ∙ rw (e, r) refl
+    go false e i = find_miss (λ k w. p k) n k w ks ws e ∙ ap later i ∙ sym (position_later p k (take n ks) e)
+
+pub found_kind : (kind n : ℕ) (ks ws : List ℕ) {f : Found} → f ≡ position (λ k. eqb k kind) (take n ks) → n ≤ length ks → n ≤ length ws → find (λ k w. eqb k kind) n ks ws ≡ f
+found_kind kind n ks ws e h g = kind_position (λ k. eqb k kind) n ks ws h g ∙ sym e
 
 -- another test that tells the same finds the same
 pub found_by : (p q : ℕ → ℕ → Bool) (count m n : ℕ) (ks ws : List ℕ) {f : Found} → min (length ks) (length ws) ≡ m → min count m ≡ n
     → ((k w : ℕ) → p k w ≡ q k w) → find q n ks ws ≡ f → find p count ks ws ≡ f
 found_by p q count m n ks ws shorter least alike e = rw (fun_ext (λ k. fun_ext (alike k)), find_shorter q count ks ws, shorter, least) e
-
--- ---- bytes stored
-
-pub sets_step : (to from : List ℕ) (at i : ℕ) → i < length from → sets to (at + i) (drop i from) ≡ sets (set to (at + i) (get_or from i 0)) (at + (i + 1)) (drop (i + 1) from)
-sets_step to from at i h =
-    let s : at + (i + 1) ≡ suc (at + i) = omega arith in
-    rw (drop-cons from i 0 h, s, add-one)
-
-pub sets_end : (to from : List ℕ) (at i : ℕ) → length from ≤ i → sets to at (drop i from) ≡ to
-sets_end to from at i h = rw (drop_of_length-le from h)
 
 -- ---- a constant added: each law's hypotheses are in the code's order
 
@@ -212,5 +225,5 @@ module _ (t : Table) (bytes ks ws pool : List ℕ) {b : Bool} (fits : leb (t.use
       → stored_text (leb (t.used + length bytes) (length pool)) t bytes ks ws pool ≡ out r ks' ws' pool'
   text_fits {w} {r} {ks'} {ws'} {pool'} b_true copied placed done = rw (fits ∙ b_true, copied, placed) (done pool')
 
-  pub text_too_long : b ≡ false → stored_text (leb (t.used + length bytes) (length pool)) t bytes ks ws pool ≡ out (AddedVariants.Refused Pool) ks ws pool
+  pub text_too_long : b ≡ false → stored_text (leb (t.used + length bytes) (length pool)) t bytes ks ws pool ≡ out (Err Pool) ks ws pool
   text_too_long b_false = rw (fits ∙ b_false)

@@ -1,6 +1,6 @@
 -- What a constant table is and stays: no two of its entries are the same constant. `added` finds the constant or puts it behind the others, and changes nothing else, since a search found it nowhere and a text's bytes go behind those in use.
 -- Assumes nothing.
-use Rattle.std.specs.Prelude.{◌≡◌, refl, Bool, true, false, List, [], ◌∷◌, ℕ, zero, suc, ◌+◌, ◌*◌, ◌/◌, ◌%◌, ◌^◌, ◌≤◌, ◌<◌, length, get_or, take, drop, set, leb}
+use Rattle.std.specs.Prelude.{◌≡◌, refl, Bool, true, false, List, [], ◌∷◌, ℕ, zero, suc, ◌+◌, ◌*◌, ◌/◌, ◌%◌, ◌^◌, ◌≤◌, ◌<◌, length, get_or, take, drop, set, leb, None, Some, Ok, Err}
 use Rattle.std.proofs.Common.{sym, ap, ◌∙◌, subst, append_assoc, zero-add, suc-add, mod-eq_of_lt, arith, length-set, take-take, drop_at, length-take-le, get_or-set_same, get_or-set_other, leb-true, below_more}
 use Rattle.std.proofs.Math.Option.{some}
 use Rattle.std.proofs.lemmas.List.Edits.{sets, sets-eq}
@@ -10,14 +10,9 @@ use Rattle.refusals.specs.declared.Refusal.{Refusal}
 use Rattle.constants.specs.declared.Val.{Val}
 use Rattle.constants.specs.declared.Val.TheVariants as val
 use Rattle.constants.specs.declared.Table.{Table}
-use Rattle.constants.specs.declared.Found.{Found}
-use Rattle.constants.specs.declared.Found.TheVariants.{Nothing}
-use Rattle.constants.specs.declared.Found.TheVariants as FoundVariants
-use Rattle.constants.specs.declared.Added.{Added}
-use Rattle.constants.specs.declared.Added.TheVariants.{At, Refused}
 use Rattle.constants.specs.Entry.{Constant, part, constant_of, entry_of, constant_at, Inside, holds}
 use Rattle.instructions.specs.Limits.{max_constants}
-use Rattle.constants.specs.Table.{Out, out, find, full, stored, stored_text, append, added}
+use Rattle.constants.specs.Table.{Out, out, find, full, stored, stored_text, append, added, Found, Added}
 use Rattle.constants.specs.Laws.{holds_true, holds_false, find_at, find_nothing, not_full, not_most, added_there, added_full, added_new}
 
 -- ---- what is said
@@ -62,7 +57,7 @@ pub record Kept (ks ws pool : List ℕ) (t' : Table) (ks' ws' pool' : List ℕ) 
 pub data Grown : Table → List ℕ → List ℕ → List ℕ → Type 0 where
   empty : (ks ws pool : List ℕ) → length pool < 2 ^ 48 → Grown (record { count = 0; used = 0 }) ks ws pool
   grow : {t : Table} {ks ws pool : List ℕ} (chunk : List ℕ) (v : Val) (i : ℕ) {t' : Table} {ks' ws' pool' : List ℕ} → Grown t ks ws pool → Short chunk v
-      → added chunk t v ks ws pool ≡ out (At i t') ks' ws' pool' → Grown t' ks' ws' pool'
+      → added chunk t v ks ws pool ≡ out (Ok (i, t')) ks' ws' pool' → Grown t' ks' ws' pool'
 
 -- ---- bytes stored in a pool
 
@@ -110,20 +105,20 @@ record Made (chunk : List ℕ) (t : Table) (v : Val) (pool : List ℕ) (k w : �
 module _ (chunk : List ℕ) (t : Table) (v : Val) (ks ws pool : List ℕ) where
   -- what an answer says of the lists that come with it
   abbrev Right : Added → List ℕ → List ℕ → List ℕ → Type 0
-  Right (At i t') ks' ws' pool' = Kept ks ws pool t' ks' ws' pool' × (Good t ks ws pool → t.used < 2 ^ 48 → Short chunk v → Grew chunk t v ks ws pool i t' ks' ws' pool')
-  Right (Refused r) ks' ws' pool' = (ks' ≡ ks) × (ws' ≡ ws) × (pool' ≡ pool)
+  Right (Ok (i, t')) ks' ws' pool' = Kept ks ws pool t' ks' ws' pool' × (Good t ks ws pool → t.used < 2 ^ 48 → Short chunk v → Grew chunk t v ks ws pool i t' ks' ws' pool')
+  Right (Err r) ks' ws' pool' = (ks' ≡ ks) × (ws' ≡ ws) × (pool' ≡ pool)
 
   abbrev RightOut : Out → Type 0
   RightOut o = Right o.answer o.kinds o.values o.pool
 
-  right_found : (i : ℕ) → find (holds pool chunk v) t.count ks ws ≡ FoundVariants.At i → RightOut (out (At i t) ks ws pool)
+  right_found : (i : ℕ) → find (holds pool chunk v) t.count ks ws ≡ Some i → RightOut (out (Ok (i, t)) ks ws pool)
   right_found i e =
       let f = find_at (holds pool chunk v) t.count ks ws i e in (
         record { kinds_length = refl; values_length = refl; pool_length = refl; kinds_behind = λ j h. refl; values_behind = λ j h. refl; pool_behind = λ j h. refl },
         λ g small short. record { good = g; below = f.below; there = holds_true pool chunk v (get_or ks i 0) (get_or ws i 0) f.meets; unchanged = λ j h. refl; at_least = omega arith; at_most = omega arith; few = λ z. z; bytes = λ z. z },
       )
 
-  module _ (k w : ℕ) (bytes : List ℕ) (nowhere : find (holds pool chunk v) t.count ks ws ≡ Nothing) (free : full t.count ks ws ≡ false) where
+  module _ (k w : ℕ) (bytes : List ℕ) (nowhere : find (holds pool chunk v) t.count ks ws ≡ None) (free : full t.count ks ws ≡ false) where
     room : (t.count < length ks) × (t.count < length ws)
     room = not_full t.count ks ws free
 
@@ -225,7 +220,7 @@ module _ (start len : ℕ) (h : start < 2 ^ 48) (l : len < 65536) where
   place_length : (start % 281474976710656 * 65536 + len % 65536) % 65536 ≡ len
   place_length = rw digits (omega arith)
 
-right_text : (chunk : List ℕ) (t : Table) (s n : ℕ) (ks ws pool : List ℕ) → find (holds pool chunk (val.Str s n)) t.count ks ws ≡ Nothing → full t.count ks ws ≡ false
+right_text : (chunk : List ℕ) (t : Table) (s n : ℕ) (ks ws pool : List ℕ) → find (holds pool chunk (val.Str s n)) t.count ks ws ≡ None → full t.count ks ws ≡ false
     → (b : Bool) → leb (t.used + length (part chunk s n)) (length pool) ≡ b → RightOut chunk t (val.Str s n) ks ws pool (stored_text b t (part chunk s n) ks ws pool)
 unfolding entry_of
 right_text chunk t s n ks ws pool nowhere free false e = (refl, refl, refl)
@@ -237,12 +232,12 @@ right_text chunk t s n ks ws pool nowhere free true e =
     let len = place_length t.used (length (part chunk s n)) small short in
     record { fits = h; short = omega (arith, short); inside = λ q. omega (arith, start, len); is = rw (start, len, part_sets pool t.used (part chunk s n) h) })
 
-right_bare : (chunk : List ℕ) (t : Table) (v : Val) (ks ws pool : List ℕ) (k w : ℕ) → find (holds pool chunk v) t.count ks ws ≡ Nothing → full t.count ks ws ≡ false
+right_bare : (chunk : List ℕ) (t : Table) (v : Val) (ks ws pool : List ℕ) (k w : ℕ) → find (holds pool chunk v) t.count ks ws ≡ None → full t.count ks ws ≡ false
     → (k ≡ 4 → ⊥) → entry_of pool k w ≡ some (constant_of chunk v) → RightOut chunk t v ks ws pool (stored t k w 0 ks ws pool)
 right_bare chunk t v ks ws pool k w nowhere free bare e =
     right_new chunk t v ks ws pool k w [] nowhere free (λ g small short. record { fits = omega (arith, g.texts_fit); short = omega arith; inside = λ q. absurd (bare q); is = e })
 
-right_append : (chunk : List ℕ) (t : Table) (v : Val) (ks ws pool : List ℕ) → find (holds pool chunk v) t.count ks ws ≡ Nothing → full t.count ks ws ≡ false
+right_append : (chunk : List ℕ) (t : Table) (v : Val) (ks ws pool : List ℕ) → find (holds pool chunk v) t.count ks ws ≡ None → full t.count ks ws ≡ false
     → RightOut chunk t v ks ws pool (append chunk t v ks ws pool)
 unfolding append entry_of
 right_append chunk t val.Nil ks ws pool nowhere free = right_bare chunk t val.Nil ks ws pool 0 0 nowhere free (λ e. omega arith) refl
@@ -255,21 +250,21 @@ module _ (chunk : List ℕ) (t : Table) (v : Val) (ks ws pool : List ℕ) where
   right_added : RightOut chunk t v ks ws pool (added chunk t v ks ws pool)
   right_added = search (find (holds pool chunk v) t.count ks ws) refl
     where
-      room : find (holds pool chunk v) t.count ks ws ≡ Nothing → (b : Bool) → full t.count ks ws ≡ b → RightOut chunk t v ks ws pool (added chunk t v ks ws pool)
+      room : find (holds pool chunk v) t.count ks ws ≡ None → (b : Bool) → full t.count ks ws ≡ b → RightOut chunk t v ks ws pool (added chunk t v ks ws pool)
       room e true f = rw (added_full chunk t v ks ws pool e refl f refl) (refl, refl, refl)
       room e false f = rw (added_new chunk t v ks ws pool e refl f refl refl) (right_append chunk t v ks ws pool e f)
 
       search : (f : Found) → find (holds pool chunk v) t.count ks ws ≡ f → RightOut chunk t v ks ws pool (added chunk t v ks ws pool)
-      search (FoundVariants.At i) e = rw (added_there chunk t v ks ws pool e refl) (right_found chunk t v ks ws pool i e)
-      search Nothing e = room e (full t.count ks ws) refl
+      search (Some i) e = rw (added_there chunk t v ks ws pool e refl) (right_found chunk t v ks ws pool i e)
+      search None e = room e (full t.count ks ws) refl
 
   -- ---- the theorems
 
   -- a refusal leaves the lists as they are
-  pub refused_added : {r : Refusal} {ks' ws' pool' : List ℕ} → added chunk t v ks ws pool ≡ out (Refused r) ks' ws' pool' → (ks' ≡ ks) × (ws' ≡ ws) × (pool' ≡ pool)
+  pub refused_added : {r : Refusal} {ks' ws' pool' : List ℕ} → added chunk t v ks ws pool ≡ out (Err r) ks' ws' pool' → (ks' ≡ ks) × (ws' ≡ ws) × (pool' ≡ pool)
   refused_added e = subst (RightOut chunk t v ks ws pool) e right_added
 
-  module _ {i : ℕ} {t' : Table} {ks' ws' pool' : List ℕ} (e : added chunk t v ks ws pool ≡ out (At i t') ks' ws' pool') where
+  module _ {i : ℕ} {t' : Table} {ks' ws' pool' : List ℕ} (e : added chunk t v ks ws pool ≡ out (Ok (i, t')) ks' ws' pool') where
     -- what lies behind the table stays, in lists of the same lengths
     pub kept_added : Kept ks ws pool t' ks' ws' pool'
     kept_added = (subst (RightOut chunk t v ks ws pool) e right_added).0

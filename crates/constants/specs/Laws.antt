@@ -1,6 +1,6 @@
 -- The laws of the tests and of the search: `same` is true of equal constants and of no others, an entry that holds a constant is that constant, and a search finds an entry that meets its test, or none does; and what adding answers.
 -- Each holds by its definition, case by case. Assumes nothing.
-use Rattle.std.specs.Prelude.{◌≡◌, refl, Bool, true, false, List, [], ◌∷◌, ℕ, zero, suc, ◌+◌, ◌<◌, length, get_or, eqb, leb}
+use Rattle.std.specs.Prelude.{◌≡◌, refl, Bool, true, false, List, [], ◌∷◌, ℕ, zero, suc, ◌+◌, ◌<◌, length, get_or, eqb, leb, Some, None, Ok, Err}
 use Rattle.std.proofs.Common.{sym, ap, ◌∙◌, subst, arith, eqb-true, eq-eqb, ne_eqb, leb-false}
 use Rattle.std.proofs.Math.Bool.{false≢true}
 use Rattle.std.proofs.Math.Option.{Option, some, none}
@@ -9,16 +9,12 @@ use Rattle.laws.specs.Truth.{or_false}
 use Rattle.constants.specs.declared.Val.{Val}
 use Rattle.constants.specs.declared.Val.TheVariants as val
 use Rattle.constants.specs.declared.Table.{Table}
-use Rattle.constants.specs.declared.Added.{Added}
-use Rattle.constants.specs.declared.Added.TheVariants as AddedVariants
 use Rattle.refusals.specs.Stage.{stage_of, steps}
 use Rattle.refusals.specs.declared.Refusal.{Refusal}
 use Rattle.refusals.specs.declared.Refusal.TheVariants.{Constants}
-use Rattle.constants.specs.declared.Found.{Found}
-use Rattle.constants.specs.declared.Found.TheVariants.{At, Nothing}
 use Rattle.instructions.specs.Limits.{max_constants}
 use Rattle.constants.specs.Entry.{Constant, nil, truth, number, text, kind_of, constant_of, entry_of, part, same_bytes, same_truth, same, is_constant, holds}
-use Rattle.constants.specs.Table.{find, later, full, Out, out, stored_text, append, added}
+use Rattle.constants.specs.Table.{find, later, full, Out, out, stored_text, append, added, Found, Added}
 
 unless_true : (t : Bool) → (t ≡ true → ⊥) → t ≡ false
 unless_true true n = absurd (n refl)
@@ -141,11 +137,11 @@ abbrev pub FoundNowhere : (ℕ → ℕ → Bool) → ℕ → List ℕ → List �
 FoundNowhere p n ks ws = (j : ℕ) → j < n → j < length ks → j < length ws → p (get_or ks j 0) (get_or ws j 0) ≡ false
 
 abbrev Means : (ℕ → ℕ → Bool) → ℕ → List ℕ → List ℕ → Found → Type 0
-Means p n ks ws (At i) = FoundAt p n ks ws i
-Means p n ks ws Nothing = FoundNowhere p n ks ws
+Means p n ks ws (Some i) = FoundAt p n ks ws i
+Means p n ks ws None = FoundNowhere p n ks ws
 
 module _ (p : ℕ → ℕ → Bool) (n k w : ℕ) (ks ws : List ℕ) where
-  pub find_hit : p k w ≡ true → find p (suc n) (k ∷ ks) (w ∷ ws) ≡ At 0
+  pub find_hit : p k w ≡ true → find p (suc n) (k ∷ ks) (w ∷ ws) ≡ Some 0
   unfolding find
   find_hit e = rw (e, find)
 
@@ -154,8 +150,8 @@ module _ (p : ℕ → ℕ → Bool) (n k w : ℕ) (ks ws : List ℕ) where
   find_miss e = rw (e, find)
 
   means_later : p k w ≡ false → (f : Found) → Means p n ks ws f → Means p (suc n) (k ∷ ks) (w ∷ ws) (later f)
-  means_later e (At i) m = record { below = omega arith; in_kinds = omega arith; in_values = omega arith; meets = m.meets }
-  means_later e Nothing m = after
+  means_later e (Some i) m = record { below = omega arith; in_kinds = omega arith; in_values = omega arith; meets = m.meets }
+  means_later e None m = after
     where
       after : FoundNowhere p (suc n) (k ∷ ks) (w ∷ ws)
       after zero h a b = e
@@ -173,10 +169,10 @@ find_means p (suc n) (k ∷ ks) [] = λ j h a b. absurd (omega arith)
 find_means p (suc n) (k ∷ ks) (w ∷ ws) = means_more p n k w ks ws (p k w) refl (find_means p n ks ws)
 
 module _ (p : ℕ → ℕ → Bool) (n : ℕ) (ks ws : List ℕ) where
-  pub find_at : (i : ℕ) → find p n ks ws ≡ At i → FoundAt p n ks ws i
+  pub find_at : (i : ℕ) → find p n ks ws ≡ Some i → FoundAt p n ks ws i
   find_at i e = subst (Means p n ks ws) e (find_means p n ks ws)
 
-  pub find_nothing : find p n ks ws ≡ Nothing → FoundNowhere p n ks ws
+  pub find_nothing : find p n ks ws ≡ None → FoundNowhere p n ks ws
   find_nothing e = subst (Means p n ks ws) e (find_means p n ks ws)
 
 -- ---- a free entry
@@ -192,12 +188,12 @@ not_most count ks ws h = leb-false max_constants count (or_false (leb (length ws
 -- ---- the three ways of adding, by what the search and the test came to
 
 module _ (chunk : List ℕ) (t : Table) (v : Val) (ks ws pool : List ℕ) {f : Found} (search : find (holds pool chunk v) t.count ks ws ≡ f) where
-  pub added_there : {i : ℕ} → f ≡ At i → added chunk t v ks ws pool ≡ out (AddedVariants.At i t) ks ws pool
+  pub added_there : {i : ℕ} → f ≡ Some i → added chunk t v ks ws pool ≡ out (Ok (i, t)) ks ws pool
   unfolding added
   added_there e = rw (search ∙ e, added)
 
-  module _ {b : Bool} (nowhere : f ≡ Nothing) (test : full t.count ks ws ≡ b) where
-    pub added_full : b ≡ true → added chunk t v ks ws pool ≡ out (AddedVariants.Refused Constants) ks ws pool
+  module _ {b : Bool} (nowhere : f ≡ None) (test : full t.count ks ws ≡ b) where
+    pub added_full : b ≡ true → added chunk t v ks ws pool ≡ out (Err Constants) ks ws pool
     unfolding added
     added_full e = rw (search ∙ nowhere, test ∙ e, added)
 
@@ -208,8 +204,8 @@ module _ (chunk : List ℕ) (t : Table) (v : Val) (ks ws pool : List ℕ) {f : F
 -- ---- refusals of adding
 
 abbrev Late : Added → Type 0
-Late (AddedVariants.At i b) = Unit {0}
-Late (AddedVariants.Refused r) = stage_of r ≡ steps
+Late (Ok (i, b)) = Unit {0}
+Late (Err r) = stage_of r ≡ steps
 
 late_text : (fits : Bool) (b : Table) (bytes ks ws pool : List ℕ) → Late (stored_text fits b bytes ks ws pool).answer
 late_text true b bytes ks ws pool = tt
@@ -224,12 +220,12 @@ late_append chunk b (val.Num x n) ks ws pool = tt
 late_append chunk b (val.Str s n) ks ws pool = late_text (leb (b.used + length (part chunk s n)) (length pool)) b (part chunk s n) ks ws pool
 
 -- adding refuses as steps do: with 11 and 12, as `added` shows
-pub late_added : (chunk : List ℕ) (b : Table) (v : Val) (ks ws pool : List ℕ) (r : Refusal) → (added chunk b v ks ws pool).answer ≡ AddedVariants.Refused r → stage_of r ≡ steps
+pub late_added : (chunk : List ℕ) (b : Table) (v : Val) (ks ws pool : List ℕ) (r : Refusal) → (added chunk b v ks ws pool).answer ≡ Err r → stage_of r ≡ steps
 unfolding added
 late_added chunk b v ks ws pool r e = subst Late e (go (find (holds pool chunk v) b.count ks ws) (full b.count ks ws))
   where
     go : (f : Found) (x : Bool) →
-        Late (elim f as (λ (_ : Found). Out) [ At i ↦ out (AddedVariants.At i b) ks ws pool | Nothing ↦ elim x as (λ (_ : Bool). Out) [ true ↦ out (AddedVariants.Refused Constants) ks ws pool | false ↦ append chunk b v ks ws pool ] ]).answer
-    go (At i) x = tt
-    go Nothing true = refl
-    go Nothing false = late_append chunk b v ks ws pool
+        Late (elim f as (λ (_ : Found). Out) [ Some i ↦ out (Ok (i, b)) ks ws pool | None ↦ elim x as (λ (_ : Bool). Out) [ true ↦ out (Err Constants) ks ws pool | false ↦ append chunk b v ks ws pool ] ]).answer
+    go (Some i) x = tt
+    go None true = refl
+    go None false = late_append chunk b v ks ws pool

@@ -1,9 +1,7 @@
 -- What the contracts of the constant table say, over lent kinds, values and pool. Assumes nothing.
 use Rattle.std.specs.Prelude.{ℕ, Bool, List, ◌≡◌}
 use Rattle.buffers.specs.Lent.{Lent, Read, bytes, old, new}
-use Rattle.constants.specs.declared.Added.{Added}
-use Rattle.constants.specs.declared.Found.{Found}
-use Rattle.constants.specs.Table.{Out, out, find}
+use Rattle.constants.specs.Table.{Out, out, find, Found, Added}
 
 -- r is what is found among the first n entries
 abbrev pub Finds : (ℕ → ℕ → Bool) → ℕ → Found → Read → Read → Type 0

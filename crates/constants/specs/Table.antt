@@ -1,28 +1,33 @@
 -- The constant table: the first `count` entries of kinds and values, with their texts in the first `used` bytes of the pool. Finding and adding. Assumes nothing.
-use Rattle.std.specs.Prelude.{ℕ, zero, suc, ◌+◌, ◌*◌, ◌%◌, List, [], ◌∷◌, Bool, true, false, ◌||◌, length, set, leb}
+use Rattle.std.specs.Prelude.{ℕ, zero, suc, ◌+◌, ◌*◌, ◌%◌, List, [], ◌∷◌, Bool, true, false, ◌||◌, length, set, leb, Option, Some, None, Result, Ok, Err}
 use Rattle.std.proofs.lemmas.List.Edits.{sets}
 use Rattle.instructions.specs.Limits.{max_constants}
+use Rattle.refusals.specs.declared.Refusal.{Refusal}
 use Rattle.refusals.specs.declared.Refusal.TheVariants.{Constants, Pool}
 use Rattle.constants.specs.Entry.{part, holds}
 use Rattle.constants.specs.declared.Val.{Val}
 use Rattle.constants.specs.declared.Val.TheVariants as val
 use Rattle.constants.specs.declared.Table.{Table}
-use Rattle.constants.specs.declared.Found.{Found}
-use Rattle.constants.specs.declared.Found.TheVariants.{At, Nothing}
-use Rattle.constants.specs.declared.Added.{Added}
-use Rattle.constants.specs.declared.Added.TheVariants as AddedVariants
+
+-- what a search answers: an entry's index
+abbrev pub Found : Type 0
+Found = Option ℕ
+
+-- what adding answers: an entry's index and the table as it then is, or a refusal
+abbrev pub Added : Type 0
+Added = Result (ℕ × Table) Refusal
 
 -- one place further on
 abbrev pub later : Found → Found
-later (At i) = At (suc i)
-later Nothing = Nothing
+later (Some i) = Some (suc i)
+later None = None
 
 -- the first of the first `count` entries that meets the test
 unfoldable pub find : (ℕ → ℕ → Bool) → ℕ → List ℕ → List ℕ → Found
-find p zero ks ws = Nothing
-find p (suc n) [] ws = Nothing
-find p (suc n) (k ∷ ks) [] = Nothing
-find p (suc n) (k ∷ ks) (w ∷ ws) = elim (p k w) [ true ↦ At 0 | false ↦ later (find p n ks ws) ]
+find p zero ks ws = None
+find p (suc n) [] ws = None
+find p (suc n) (k ∷ ks) [] = None
+find p (suc n) (k ∷ ks) (w ∷ ws) = elim (p k w) [ true ↦ Some 0 | false ↦ later (find p n ks ws) ]
 
 -- an answer, and kinds, values and pool as they then are
 pub record Out : Type 0 where
@@ -40,12 +45,12 @@ full count ks ws = leb (length ks) count || (leb (length ws) count || leb max_co
 
 -- a new entry of this kind and value, and of `n` bytes of the pool
 abbrev pub stored : Table → ℕ → ℕ → ℕ → List ℕ → List ℕ → List ℕ → Out
-stored t k w n ks ws pool = out (AddedVariants.At t.count (record { count = t.count + 1; used = t.used + n })) (set ks t.count k) (set ws t.count w) pool
+stored t k w n ks ws pool = out (Ok (t.count, record { count = t.count + 1; used = t.used + n })) (set ks t.count k) (set ws t.count w) pool
 
 -- a text's bytes go behind those in use, unless the pool is too short: refusal 12. Its value is start × 65,536 + length (start below 2 ^ 48 and length below 2 ^ 16, as all are)
 abbrev pub stored_text : Bool → Table → List ℕ → List ℕ → List ℕ → List ℕ → Out
 stored_text true t bytes ks ws pool = stored t 4 (t.used % 281474976710656 * 65536 + length bytes % 65536) (length bytes) ks ws (sets pool t.used bytes)
-stored_text false t bytes ks ws pool = out (AddedVariants.Refused Pool) ks ws pool
+stored_text false t bytes ks ws pool = out (Err Pool) ks ws pool
 
 -- .. with the test
 abbrev pub with_text : Table → List ℕ → List ℕ → List ℕ → List ℕ → Out
@@ -63,9 +68,9 @@ append chunk t (val.Str s n) ks ws pool = with_text t (part chunk s n) ks ws poo
 unfoldable pub added : List ℕ → Table → Val → List ℕ → List ℕ → List ℕ → Out
 added chunk t v ks ws pool =
     elim (find (holds pool chunk v) t.count ks ws) [
-      | At i ↦ out (AddedVariants.At i t) ks ws pool
-      | Nothing ↦ elim (full t.count ks ws) [
-        | true ↦ out (AddedVariants.Refused Constants) ks ws pool
+      | Some i ↦ out (Ok (i, t)) ks ws pool
+      | None ↦ elim (full t.count ks ws) [
+        | true ↦ out (Err Constants) ks ws pool
         | false ↦ append chunk t v ks ws pool
       ]
     ]

@@ -1,7 +1,7 @@
 // The constant table over lent kinds, values and pool: the search, and adding what is not there yet (rilua's value.rs, proto.rs and `add_constant`, `string_constant`, `nil_constant`).
 #![tactic(auto)]
 
-ghost use Rattle.std.specs.Prelude.{◌≡◌, List, false, ◌||◌, ◌&&◌, ℕ, ◌+◌, ◌*◌, ◌/◌, ◌%◌, ◌≤◌, ◌<◌, min, length, eqb, leb};
+ghost use Rattle.std.specs.Prelude.{◌≡◌, ◌==◌, List, position, take, false, ◌||◌, ◌&&◌, ℕ, ◌+◌, ◌*◌, ◌/◌, ◌%◌, ◌≤◌, ◌<◌, min, length, eqb, leb};
 ghost use Rattle.std.proofs.lemmas.List.Edits.{sets};
 ghost use Rattle.buffers.specs.Lent.{bytes, new, old};
 ghost use Rattle.instructions.specs.Limits.{max_constants};
@@ -24,23 +24,12 @@ pub enum Val {
     Str { start: usize, len: usize },
 }
 
-// How many entries the table has, and how many bytes of the pool they use.
-#[derive(Clone, Copy)]
+// How many entries the table has, and how many bytes of the pool they use. Kinds, values and pool are lent beside it one by one: the C interface has them so, `FuncState` of model brings them together,
+// and a second struct of the same slices, made from that one at each call, would be no plainer. An entry's kind is a number, 0 to 4, since the controllers read it so.
+#[derive(Clone, Copy, PartialEq, Eq, Debug)]
 pub struct Table {
     pub count: usize,
     pub used: usize,
-}
-
-#[derive(Clone, Copy)]
-pub enum Found {
-    At(usize),
-    Nothing,
-}
-
-#[derive(Clone, Copy)]
-pub enum Added {
-    Refused(Refusal),
-    At(usize, Table),
 }
 
 // The part of a slice of `len` from `start`, as far as it goes.
@@ -58,25 +47,19 @@ pub fn part(s: &[u8], start: usize, len: usize) -> &[u8]
     &s[start..end]
 }
 
-fn wide(b: u8) -> u32
-    ensures { (result ≡ b) × (result < 256) }
-{
-    b as u32
-}
-
 // Four bytes as one number, so that they are compared in one step.
 fn four(s: &[u8], at: usize) -> u32
     requires { at + 4 ≤ length s.now }
     ensures { (four_of (bytes s) at ≡ result) × FourBytes (bytes s) at }
 {
-    let a = wide(s[at]);
-    let b = wide(s[at + 1]);
-    let c = wide(s[at + 2]);
-    let d = wide(s[at + 3]);
-    a + 256 * b + 65536 * c + 16777216 * d
+    u32::from(s[at])
+        + 256 * u32::from(s[at + 1])
+        + 65536 * u32::from(s[at + 2])
+        + 16777216 * u32::from(s[at + 3])
 }
 
 // From the end, where names made by counting differ, four bytes at a time and then the rest.
+// Both loops count one k down, the second from where the first stopped; `for i in (0..k).rev()` would be no plainer.
 #[tactic(auto, using(crate::specs::Laws::same_bytes_false, crate::specs::Laws::same_bytes_refl))]
 pub fn same_bytes(a: &[u8], b: &[u8]) -> bool
     ensures { same_bytes (bytes a) (bytes b) ≡ result }
@@ -107,26 +90,12 @@ fn truth_kind(b: bool) -> u8
     if b { 2 } else { 1 }
 }
 
-fn least(a: usize, b: usize) -> usize
-    ensures { min a b ≡ result }
-{
-    if a < b { a } else { b }
-}
-
 // Of the first `n` entries the first of this kind, whatever its value.
-#[tactic(auto, using(crate::proofs::Steps::found_first, crate::proofs::Steps::found_nowhere))]
-fn find_kind(kinds: &[u8], n: usize, kind: u8) -> Found
+fn find_kind(kinds: &[u8], n: usize, kind: u8) -> Option<usize>
     requires { n ≤ length kinds.now }
-    ensures { (ws : List ℕ) → n ≤ length ws → find_in (λ k w. eqb k kind) n (bytes kinds) ws ≡ result }
+    ensures { result ≡ position (λ k. k == kind) (take n kinds.now) }
 {
-    let mut at = 0;
-    while at < n {
-        if kinds[at] == kind {
-            return Found::At(at);
-        }
-        at += 1;
-    }
-    Found::Nothing
+    kinds[..n].iter().position(|&k| k == kind)
 }
 
 // Whether one of four values is this.
@@ -134,16 +103,7 @@ fn in_four(values: &[u64], at: usize, bits: u64) -> bool
     requires { at + 4 ≤ length values.now }
     ensures { in_four (bytes values) at bits ≡ result }
 {
-    if values[at] == bits {
-        return true;
-    }
-    if values[at + 1] == bits {
-        return true;
-    }
-    if values[at + 2] == bits {
-        return true;
-    }
-    values[at + 3] == bits
+    values[at] == bits || values[at + 1] == bits || values[at + 2] == bits || values[at + 3] == bits
 }
 
 // A place before which none of the values is this one, found four by four; how far on it lies the contract leaves free.
@@ -151,32 +111,27 @@ fn past_fours(values: &[u64], n: usize, bits: u64) -> usize
     requires { n ≤ length values.now }
     ensures { Without (bytes values) result bits }
 {
-    let mut i = 0;
-    while 4 <= n - i {
-        if in_four(values, i, bits) {
-            return i;
+    let fours = n / 4;
+    for q in 0..fours {
+        if in_four(values, 4 * q, bits) {
+            return 4 * q;
         }
-        i += 4;
     }
-    i
+    4 * fours
 }
 
 // Of the first `n` entries the first number of these bits: 0.0 and -0.0 are two constants, and a NaN is itself.
 #[tactic(auto, using(crate::proofs::Steps::found_first, crate::proofs::Steps::found_nowhere))]
-fn find_bits(kinds: &[u8], values: &[u64], n: usize, bits: u64) -> Found
+fn find_bits(kinds: &[u8], values: &[u64], n: usize, bits: u64) -> Option<usize>
     requires { (n ≤ length kinds.now) × (n ≤ length values.now) }
     ensures { Finds (λ k w. eqb w bits && eqb k 3) n result kinds values }
 {
-    let mut i = past_fours(values, n, bits);
-    while i < n {
-        if values[i] == bits {
-            if kinds[i] == 3 {
-                return Found::At(i);
-            }
+    for i in past_fours(values, n, bits)..n {
+        if values[i] == bits && kinds[i] == 3 {
+            return Some(i);
         }
-        i += 1;
     }
-    Found::Nothing
+    None
 }
 
 // Whether a text's entry of this value is `text`.
@@ -228,46 +183,39 @@ fn ends_alike(value: u64, pool: &[u8], len: usize, last: u32) -> bool
 
 // Of the first `n` entries the first that is `text`, each text compared.
 #[tactic(auto, using(crate::proofs::Steps::found_first, crate::proofs::Steps::found_nowhere))]
-fn find_each(kinds: &[u8], values: &[u64], pool: &[u8], n: usize, text: &[u8]) -> Found
+fn find_each(kinds: &[u8], values: &[u64], pool: &[u8], n: usize, text: &[u8]) -> Option<usize>
     requires { (n ≤ length kinds.now) × (n ≤ length values.now) }
     ensures { Finds (is_text (bytes pool) (bytes text)) n result kinds values }
 {
-    let mut i = 0;
-    while i < n {
-        if kinds[i] == 4 {
-            if is_text(values[i], pool, text) {
-                return Found::At(i);
-            }
+    for i in 0..n {
+        if kinds[i] == 4 && is_text(values[i], pool, text) {
+            return Some(i);
         }
-        i += 1;
     }
-    Found::Nothing
+    None
 }
 
 // The same, and only texts compared that end as `text` does. A text that the pool's end cuts off isn't as long as its entry says, so it would be passed over; none such is `text` where the pool's last bytes aren't.
 #[tactic(auto, using(crate::proofs::Steps::found_first, crate::proofs::Steps::found_nowhere, crate::proofs::Steps::not_alike))]
-fn find_alike(kinds: &[u8], values: &[u64], pool: &[u8], n: usize, text: &[u8]) -> Found
+fn find_alike(kinds: &[u8], values: &[u64], pool: &[u8], n: usize, text: &[u8]) -> Option<usize>
     requires { (n ≤ length kinds.now) × (n ≤ length values.now) × (4 ≤ length text.now) × (same_bytes (tail_of (length text.now) pool.now) text.now ≡ false) }
     ensures { Finds (is_text (bytes pool) (bytes text)) n result kinds values }
 {
     let len = text.len();
     let last = four(text, len - 4);
-    let mut i = 0;
-    while i < n {
-        if ends_alike(values[i], pool, len, last) {
-            if kinds[i] == 4 {
-                if is_text(values[i], pool, text) {
-                    return Found::At(i);
-                }
-            }
+    for i in 0..n {
+        if ends_alike(values[i], pool, len, last)
+            && kinds[i] == 4
+            && is_text(values[i], pool, text)
+        {
+            return Some(i);
         }
-        i += 1;
     }
-    Found::Nothing
+    None
 }
 
 // Of the first `n` entries the first that is `text`.
-fn find_text(kinds: &[u8], values: &[u64], pool: &[u8], n: usize, text: &[u8]) -> Found
+fn find_text(kinds: &[u8], values: &[u64], pool: &[u8], n: usize, text: &[u8]) -> Option<usize>
     requires { (n ≤ length kinds.now) × (n ≤ length values.now) }
     ensures { Finds (is_text (bytes pool) (bytes text)) n result kinds values }
 {
@@ -282,11 +230,18 @@ fn find_text(kinds: &[u8], values: &[u64], pool: &[u8], n: usize, text: &[u8]) -
 
 // The first of the first `count` entries that is the constant v. What stands at or above the count is never looked at.
 // A loop for each kind of constant, so that none asks at each entry what v is.
-#[tactic(auto, using(crate::proofs::Steps::found_by, crate::proofs::Steps::holds_kind, crate::proofs::Steps::holds_truth), unfolding(crate::specs::Entry::entry_of, crate::specs::Entry::same))]
-pub fn find(kinds: &[u8], values: &[u64], pool: &[u8], chunk: &[u8], count: usize, v: Val) -> Found
+#[tactic(auto, using(crate::proofs::Steps::found_by, crate::proofs::Steps::holds_kind), unfolding(crate::specs::Entry::entry_of, crate::specs::Entry::same))]
+pub fn find(
+    kinds: &[u8],
+    values: &[u64],
+    pool: &[u8],
+    chunk: &[u8],
+    count: usize,
+    v: Val,
+) -> Option<usize>
     ensures { Finds (holds (bytes pool) (bytes chunk) v) count result kinds values }
 {
-    let n = least(count, least(kinds.len(), values.len()));
+    let n = count.min(kinds.len().min(values.len()));
     match v {
         Val::Nil => find_kind(kinds, n, 0),
         Val::Bool(b) => find_kind(kinds, n, truth_kind(b)),
@@ -297,10 +252,10 @@ pub fn find(kinds: &[u8], values: &[u64], pool: &[u8], chunk: &[u8], count: usiz
 
 // The same for a number alone, which needs neither pool nor chunk. It stands apart so that `find` has a single call, which the compiler inlines.
 #[tactic(auto, using(crate::proofs::Steps::found_by, crate::proofs::Steps::holds_kind), unfolding(crate::specs::Entry::entry_of, crate::specs::Entry::same))]
-pub fn find_numeral(kinds: &[u8], values: &[u64], count: usize, bits: u64) -> Found
+pub fn find_numeral(kinds: &[u8], values: &[u64], count: usize, bits: u64) -> Option<usize>
     ensures { (p c : List ℕ) (v : Val) → constant_of c v ≡ number bits → Finds (holds p c v) count result kinds values }
 {
-    let n = least(count, least(kinds.len(), values.len()));
+    let n = count.min(kinds.len().min(values.len()));
     find_bits(kinds, values, n, bits)
 }
 
@@ -309,37 +264,22 @@ fn copy(to: &mut [u8], at: usize, from: &[u8])
     requires { at + length from.now ≤ length to.old }
     ensures { sets (old to) at (bytes from) ≡ new to }
 {
-    let mut done = 0;
-    while done < from.len() {
-        to[at + done] = from[done];
-        done += 1;
-    }
+    let end = at + from.len();
+    to[at..end].copy_from_slice(from);
 }
 
 // Whether there is no entry behind the first `count`.
 fn full(kinds: usize, values: usize, count: usize) -> bool
     ensures { (leb kinds count || (leb values count || leb max_constants count)) ≡ result }
 {
-    if kinds <= count {
-        return true;
-    }
-    if values <= count {
-        return true;
-    }
-    MAX_CONSTANTS <= count
+    kinds <= count || values <= count || MAX_CONSTANTS <= count
 }
 
 // Whether `n` bytes go behind the first `used` of `size`.
 fn fits(size: usize, used: usize, n: usize) -> bool
     ensures { leb (used + n) size ≡ result }
 {
-    if size < used {
-        return false;
-    }
-    if size - used < n {
-        return false;
-    }
-    true
+    used <= size && n <= size - used
 }
 
 // The value of a text's entry.
@@ -357,7 +297,7 @@ fn store(
     kind: u8,
     value: u64,
     n: usize,
-) -> Added
+) -> Result<(usize, Table), Refusal>
     requires { (table.count < length kinds.old) × (table.count < length values.old) × (table.used + n < 18446744073709551616) }
     ensures { StoresValues (stored table kind value n) result kinds values }
 {
@@ -365,13 +305,13 @@ fn store(
     let used = table.used;
     kinds[count] = kind;
     values[count] = value;
-    Added::At(
+    Ok((
         count,
         Table {
             count: count + 1,
             used: used + n,
         },
-    )
+    ))
 }
 
 // A text's entry, its bytes behind those in use: 12 where they don't fit the pool.
@@ -381,7 +321,7 @@ fn store_text(
     pool: &mut [u8],
     table: Table,
     text: &[u8],
-) -> Added
+) -> Result<(usize, Table), Refusal>
     requires { (table.count < length kinds.old) × (table.count < length values.old) }
     ensures { Stores (with_text table (bytes text)) result kinds values pool }
 {
@@ -391,7 +331,7 @@ fn store_text(
         copy(pool, used, text);
         return store(kinds, values, table, 4, place(used, n), n);
     }
-    Added::Refused(Refusal::Pool)
+    Err(Refusal::Pool)
 }
 
 // The new entry of the constant v.
@@ -402,7 +342,7 @@ fn append(
     chunk: &[u8],
     table: Table,
     v: Val,
-) -> Added
+) -> Result<(usize, Table), Refusal>
     requires { (table.count < length kinds.old) × (table.count < length values.old) }
     ensures { Stores (appended (bytes chunk) table v) result kinds values pool }
 {
@@ -423,15 +363,15 @@ pub fn add_constant(
     chunk: &[u8],
     table: Table,
     v: Val,
-) -> Added
+) -> Result<(usize, Table), Refusal>
     ensures { Stores (added (bytes chunk) table v) result kinds values pool }
 {
     let count = table.count;
     match find(kinds, values, pool, chunk, count, v) {
-        Found::At(i) => Added::At(i, table),
-        Found::Nothing => {
+        Some(i) => Ok((i, table)),
+        None => {
             if full(kinds.len(), values.len(), count) {
-                return Added::Refused(Refusal::Constants);
+                return Err(Refusal::Constants);
             }
             append(kinds, values, pool, chunk, table, v)
         }

@@ -5,8 +5,8 @@ use Rattle.refusals.specs.declared.Refusal.{Refusal}
 use Rattle.buffers.specs.Pad.{zeros, pad}
 use Rattle.buffers.specs.Laws.{pad_none, set_pad}
 use Rattle.model.specs.declared.Counts.{Counts}
-use Rattle.model.specs.declared.Lowered.{Lowered}
-use Rattle.model.specs.declared.Lowered.TheVariants as answer
+use Rattle.model.specs.Lowered.{Lowered}
+use Rattle.std.specs.Prelude as answer
 use Rattle.model.specs.Steps.{Buffers}
 use Rattle.model.specs.Claims.{Padded, Faithful, Lowers}
 use Rattle.model.specs.Lowering.{Sizes, Out, out}
@@ -19,11 +19,11 @@ four_set n a b c d =
 
 module _ {r : Lowered} (n : ℕ) {l : List ℕ} (clear : zeros n ≡ l) where
   -- the number, and what the counts' buffer holds, after four stores in zeros
-  pub tell_done : (k : Counts) {l1 l2 l3 l4 : List ℕ} → r ≡ answer.Done k → set l 0 k.words ≡ l1 → set l1 1 k.constants ≡ l2 → set l2 2 k.text ≡ l3 → set l3 3 k.frame ≡ l4 → (number_for r ≡ 0) × (pad n (counts_for r) ≡ l4)
+  pub tell_done : (k : Counts) {l1 l2 l3 l4 : List ℕ} → r ≡ answer.Ok k → set l 0 k.words ≡ l1 → set l1 1 k.constants ≡ l2 → set l2 2 k.text ≡ l3 → set l3 3 k.frame ≡ l4 → (number_for r ≡ 0) × (pad n (counts_for r) ≡ l4)
   tell_done k e a b c d =
       (ap number_for e, ap (λ r. pad n (counts_for r)) e ∙ sym (four_set n k.words k.constants k.text k.frame) ∙ ap (λ l. set (set (set (set l 0 k.words) 1 k.constants) 2 k.text) 3 k.frame) clear ∙ ap (λ l. set (set (set l 1 k.constants) 2 k.text) 3 k.frame) a ∙ ap (λ l. set (set l 2 k.text) 3 k.frame) b ∙ ap (λ l. set l 3 k.frame) c ∙ d)
 
-  pub tell_refused : {k : Refusal} {x : ℕ} → r ≡ answer.Refused k → number_for (answer.Refused k) ≡ x → (number_for r ≡ x) × (pad n (counts_for r) ≡ l)
+  pub tell_refused : {k : Refusal} {x : ℕ} → r ≡ answer.Err k → number_for (answer.Err k) ≡ x → (number_for r ≡ x) × (pad n (counts_for r) ≡ l)
   tell_refused e q = (ap number_for e ∙ q, ap (λ r. pad n (counts_for r)) e ∙ pad_none n ∙ clear)
 
 -- an answer told

@@ -2,8 +2,8 @@
 use Rattle.std.specs.Prelude.{ℕ, ◌≡◌, List, [], ◌∷◌, length}
 use Rattle.refusals.specs.Number.{number_of}
 use Rattle.buffers.specs.Pad.{pad}
-use Rattle.model.specs.declared.Lowered.{Lowered}
-use Rattle.model.specs.declared.Lowered.TheVariants as answer
+use Rattle.model.specs.Lowered.{Lowered}
+use Rattle.std.specs.Prelude as answer
 use Rattle.model.specs.Steps.{Buffers}
 use Rattle.model.specs.Claims.{sizes, Padded, Faithful}
 use Rattle.buffers.specs.Lent.{Lent}
@@ -22,13 +22,13 @@ telling n m scratch counts = record { number = n; buffers = m; scratch = scratch
 
 -- 0, or the refusal's number
 abbrev pub number_for : Lowered → ℕ
-number_for (answer.Done k) = 0
-number_for (answer.Refused k) = number_of k
+number_for (answer.Ok k) = 0
+number_for (answer.Err k) = number_of k
 
 -- words, constants, text bytes, frame; none beside a refusal
 abbrev pub counts_for : Lowered → List ℕ
-counts_for (answer.Done k) = k.words ∷ k.constants ∷ k.text ∷ k.frame ∷ []
-counts_for (answer.Refused k) = []
+counts_for (answer.Ok k) = k.words ∷ k.constants ∷ k.text ∷ k.frame ∷ []
+counts_for (answer.Err k) = []
 
 -- a lowering as it is told with a buffer for n counts: as many of the four as fit, then zeros
 abbrev pub told : ℕ → Out → Told

@@ -6,9 +6,10 @@ ghost use Rattle.buffers.specs.Lent.{Rewrites, bytes, new, old};
 ghost use Rattle.buffers.specs.Pad.{pad};
 ghost use Rattle.controller.specs.Told.{number_for, counts_for, TellsLent};
 
-use buffers::clear_values;
+use buffers::clear;
 use lowering::lower;
-use model::Lowered;
+use model::Counts;
+use refusals::Refusal;
 
 // A count at index i, where the buffer reaches so far.
 fn put(counts: &mut [u64], i: usize, count: usize)
@@ -20,19 +21,19 @@ fn put(counts: &mut [u64], i: usize, count: usize)
 }
 
 // The answer's number; the counts in their buffer.
-fn tell(answer: Lowered, counts: &mut [u64]) -> u32
+fn tell(answer: Result<Counts, Refusal>, counts: &mut [u64]) -> u32
     ensures { (number_for answer ≡ result) × Rewrites (λ l. pad (length l) (counts_for answer)) counts }
 {
-    clear_values(counts);
+    clear(counts);
     match answer {
-        Lowered::Done(k) => {
+        Ok(k) => {
             put(counts, 0, k.words);
             put(counts, 1, k.constants);
             put(counts, 2, k.text);
             put(counts, 3, k.frame);
             0
         }
-        Lowered::Refused(k) => k.number(),
+        Err(k) => u32::from(k),
     }
 }
 

@@ -1,14 +1,6 @@
 -- Fields of a list of bytes at a place (document 01, "The chunk"): little-endian integers and texts, or that bytes of them are missing. Assumes nothing.
-use Rattle.std.specs.Prelude.{ℕ, ◌+◌, ◌*◌, List, Bool, true, false, length, get_or, take, drop, leb}
+use Rattle.std.specs.Prelude.{ℕ, ◌+◌, ◌*◌, List, Bool, true, false, length, get_or, take, drop, leb, Option, Some, None}
 use Rattle.cursor.specs.declared.Text.{Text}
-use Rattle.cursor.specs.declared.ByteRead.{ByteRead}
-use Rattle.cursor.specs.declared.ByteRead.TheVariants.{Byte, NoByte}
-use Rattle.cursor.specs.declared.LineRead.{LineRead}
-use Rattle.cursor.specs.declared.LineRead.TheVariants.{Line, NoLine}
-use Rattle.cursor.specs.declared.BitsRead.{BitsRead}
-use Rattle.cursor.specs.declared.BitsRead.TheVariants.{Bits, NoBits}
-use Rattle.cursor.specs.declared.TextRead.{TextRead}
-use Rattle.cursor.specs.declared.TextRead.TheVariants as read
 
 -- the numbers of 2, 4 and 8 bytes at a place, lowest byte first
 abbrev pub le2 : List ℕ → ℕ → ℕ
@@ -24,21 +16,21 @@ le8 s at = le4 s at + 4294967296 * le4 s (at + 4)
 unfoldable pub has_bytes : List ℕ → ℕ → ℕ → Bool
 has_bytes s at n = leb (at + n) (length s)
 
-unfoldable pub byte_at : List ℕ → ℕ → ByteRead
-byte_at s at = elim (has_bytes s at 1) [ true ↦ Byte (get_or s at 0) | false ↦ NoByte ]
+unfoldable pub byte_at : List ℕ → ℕ → Option ℕ
+byte_at s at = elim (has_bytes s at 1) [ true ↦ Some (get_or s at 0) | false ↦ None ]
 
-unfoldable pub line_at : List ℕ → ℕ → LineRead
-line_at s at = elim (has_bytes s at 4) [ true ↦ Line (le4 s at) | false ↦ NoLine ]
+unfoldable pub line_at : List ℕ → ℕ → Option ℕ
+line_at s at = elim (has_bytes s at 4) [ true ↦ Some (le4 s at) | false ↦ None ]
 
-unfoldable pub bits_at : List ℕ → ℕ → BitsRead
-bits_at s at = elim (has_bytes s at 8) [ true ↦ Bits (le8 s at) | false ↦ NoBits ]
+unfoldable pub bits_at : List ℕ → ℕ → Option ℕ
+bits_at s at = elim (has_bytes s at 8) [ true ↦ Some (le8 s at) | false ↦ None ]
 
 -- a text: a length of two bytes, then as many bytes
-unfoldable pub text_at : List ℕ → ℕ → TextRead
+unfoldable pub text_at : List ℕ → ℕ → Option Text
 text_at s at =
     elim (has_bytes s at 2) [
-      | true ↦ elim (has_bytes s (at + 2) (le2 s at)) [ true ↦ read.Text (record { start = at + 2; len = le2 s at }) | false ↦ read.NoText ]
-      | false ↦ read.NoText
+      | true ↦ elim (has_bytes s (at + 2) (le2 s at)) [ true ↦ Some (record { start = at + 2; len = le2 s at }) | false ↦ None ]
+      | false ↦ None
     ]
 
 -- the place behind a text

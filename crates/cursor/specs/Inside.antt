@@ -1,15 +1,10 @@
 -- `has_bytes` is true just where a field ends within the bytes; so what was read lies in them.
 -- A field that was read isn't what stands for missing bytes, so its test of `has_bytes` was true. Assumes nothing.
-use Rattle.std.specs.Prelude.{ℕ, ◌+◌, ◌≤◌, ◌<◌, List, Bool, true, false, length, get_or}
+use Rattle.std.specs.Prelude.{ℕ, ◌+◌, ◌≤◌, ◌<◌, List, Bool, true, false, length, get_or, Option, Some, None}
 use Rattle.std.proofs.Math.Path.{◌≡◌, refl}
 use Rattle.std.proofs.Common.{arith}
 use borrow.Author.Tests.{le-leb, lt-leb, leb-true}
 use Rattle.cursor.specs.declared.Text.{Text}
-use Rattle.cursor.specs.declared.ByteRead.TheVariants.{Byte, NoByte}
-use Rattle.cursor.specs.declared.LineRead.TheVariants.{Line, NoLine}
-use Rattle.cursor.specs.declared.BitsRead.TheVariants.{Bits, NoBits}
-use Rattle.cursor.specs.declared.TextRead.{TextRead}
-use Rattle.cursor.specs.declared.TextRead.TheVariants as read
 use Rattle.cursor.specs.Fields.{le2, le4, le8, has_bytes, byte_at, line_at, bits_at, text_at, end_of}
 
 module _ (s : List ℕ) (at n : ℕ) where
@@ -34,19 +29,19 @@ module _ (s : List ℕ) (at : ℕ) where
       go true h g = has_true s at n h
       go false h g = absurd (differ g)
 
-  pub byte_inside : (b : ℕ) → byte_at s at ≡ Byte b → at + 1 ≤ length s
+  pub byte_inside : (b : ℕ) → byte_at s at ≡ Some b → at + 1 ≤ length s
   unfolding byte_at
-  byte_inside b e = there 1 (Byte (get_or s at 0)) NoByte (Byte b) (λ q. let z : ◌≡◌ {A = ℕ} 0 1 = cc in omega arith) e
+  byte_inside b e = there 1 (Some (get_or s at 0)) None (Some b) (λ q. let z : ◌≡◌ {A = ℕ} 0 1 = cc in omega arith) e
 
-  pub line_inside : (l : ℕ) → line_at s at ≡ Line l → at + 4 ≤ length s
+  pub line_inside : (l : ℕ) → line_at s at ≡ Some l → at + 4 ≤ length s
   unfolding line_at
-  line_inside l e = there 4 (Line (le4 s at)) NoLine (Line l) (λ q. let z : ◌≡◌ {A = ℕ} 0 1 = cc in omega arith) e
+  line_inside l e = there 4 (Some (le4 s at)) None (Some l) (λ q. let z : ◌≡◌ {A = ℕ} 0 1 = cc in omega arith) e
 
-  pub bits_inside : (b : ℕ) → bits_at s at ≡ Bits b → at + 8 ≤ length s
+  pub bits_inside : (b : ℕ) → bits_at s at ≡ Some b → at + 8 ≤ length s
   unfolding bits_at
-  bits_inside b e = there 8 (Bits (le8 s at)) NoBits (Bits b) (λ q. let z : ◌≡◌ {A = ℕ} 0 1 = cc in omega arith) e
+  bits_inside b e = there 8 (Some (le8 s at)) None (Some b) (λ q. let z : ◌≡◌ {A = ℕ} 0 1 = cc in omega arith) e
 
-  pub text_inside : (t : Text) → text_at s at ≡ read.Text t → (at + 2 ≤ end_of t) × (end_of t ≤ length s)
+  pub text_inside : (t : Text) → text_at s at ≡ Some t → (at + 2 ≤ end_of t) × (end_of t ≤ length s)
   unfolding text_at
   text_inside t e = go (has_bytes s at 2) (has_bytes s (at + 2) (le2 s at)) refl e
     where
@@ -54,7 +49,7 @@ module _ (s : List ℕ) (at : ℕ) where
       whole = record { start = at + 2; len = le2 s at }
 
       go : (u v : Bool) → has_bytes s (at + 2) (le2 s at) ≡ v
-          → ◌≡◌ {A = TextRead} (elim u [ true ↦ elim v [ true ↦ read.Text whole | false ↦ read.NoText ] | false ↦ read.NoText ]) (read.Text t)
+          → ◌≡◌ {A = Option Text} (elim u [ true ↦ elim v [ true ↦ Some whole | false ↦ None ] | false ↦ None ]) (Some t)
           → (at + 2 ≤ end_of t) × (end_of t ≤ length s)
       go true true h g = let k : whole ≡ t = cc in rw (← k) (omega arith, has_true s (at + 2) (le2 s at) h)
       go true false h g = absurd (let z : ◌≡◌ {A = ℕ} 0 1 = cc in omega arith)

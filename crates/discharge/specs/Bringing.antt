@@ -1,4 +1,4 @@
--- `bring` step by step: what is wanted of a descriptor is what is wanted of the value that it becomes; that is a constant, or the value where it goes. Assumes nothing.
+-- Bringing step by step: what is wanted of a descriptor is what is wanted of the value that it becomes; that is a constant, or the value where it goes. Assumes nothing.
 use Rattle.std.specs.Prelude.{ℕ, ◌≤◌, ◌<◌, Bool, ◌≡◌, leb}
 use Rattle.std.proofs.Math.Bool.{true, false}
 use Rattle.std.proofs.Common.{true≢false, ◌∙◌}
@@ -15,12 +15,12 @@ use Rattle.model.specs.Descriptor.{with_kind, with_jumps, has_jumps, is_kind}
 use Rattle.model.specs.Emission.{emit_abc, emit_abx, alloc_reg, free_reg}
 use Rattle.model.specs.Discharge.{discharge_kind, discharge_vars, free_expr, load_kind, discharge2reg, settle, join_jump, exp2reg, exp2nextreg, exp2anyreg, exp2val, rk_kind, exp2rk}
 use Rattle.emission.specs.Laws.{branch}
-use Rattle.discharge.specs.declared.Want.{Want}
-use Rattle.discharge.specs.declared.Want.TheVariants.{Vars, Load, Reg, Next, Any, Val, Rk}
-use Rattle.discharge.specs.declared.Operand.{Operand}
-use Rattle.discharge.specs.declared.Operand.TheVariants as operand
-use Rattle.discharge.specs.declared.Spot.{Spot}
-use Rattle.discharge.specs.declared.Spot.TheVariants as spot
+use Rattle.discharge.specs.Want.{Want}
+use Rattle.discharge.specs.Want.{Vars, Load, Reg, Next, Any, Val, Rk}
+use Rattle.discharge.specs.Operand.{Operand}
+use Rattle.discharge.specs.Operand as operand
+use Rattle.discharge.specs.Spot.{Spot}
+use Rattle.discharge.specs.Spot as spot
 use Rattle.discharge.specs.Kinds.{kind_is, give, placed, any_of}
 use Rattle.discharge.specs.Laws.{to_reg, to_reg_refused, reg_refused, next_done, next_refused, any_done, any_refused, taken_done, taken_refused, any_jumps, any_there, any_reused, any_next, any_elsewhere, val_jumps, val_plain, operand_done, operand_refused}
 use Rattle.discharge.specs.Wants.{wanted, only_value, keeps_open, value_kind, is_value, is_plain, wants_operand, reg_of, landing_of, there_of, rest_is, spot_is}

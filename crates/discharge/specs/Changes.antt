@@ -3,10 +3,10 @@ use Rattle.std.specs.Prelude.{ℕ, Float}
 use Rattle.model.specs.declared.ExprKind.{ExprKind}
 use Rattle.model.specs.declared.ExprContext.{ExprContext}
 use Rattle.model.specs.declared.State.{State}
-use Rattle.model.specs.declared.Described.{Described}
-use Rattle.model.specs.declared.Described.TheVariants as described
-use Rattle.discharge.specs.declared.Brought.{Brought}
-use Rattle.discharge.specs.declared.Brought.TheVariants as brought
+use Rattle.model.specs.Described.{Described}
+use Rattle.model.specs.Described as described
+use Rattle.discharge.specs.Brought.{Brought}
+use Rattle.discharge.specs.Brought as brought
 
 -- a state and a descriptor by their numbers
 abbrev pub state_of : ℕ → ℕ → ℕ → ℕ → ℕ → ℕ → ℕ → ℕ → ℕ → ℕ → State

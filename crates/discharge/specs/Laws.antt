@@ -14,8 +14,8 @@ use Rattle.model.specs.declared.ExprKind.{ExprKind}
 use Rattle.model.specs.declared.ExprKind.TheVariants.{Nil, True, False, K, KNum, Local, Global, Indexed, Jmp, Relocable, NonReloc, Call, VarArg}
 use Rattle.model.specs.declared.ExprContext.{ExprContext}
 use Rattle.model.specs.declared.State.{State}
-use Rattle.model.specs.declared.Given.{Given}
-use Rattle.model.specs.declared.Described.{Described}
+use Rattle.model.specs.Given.{Given}
+use Rattle.model.specs.Described.{Described}
 use Rattle.model.specs.Steps.{Buffers, bufs, Step, Result, done, refused, and_then, skip, given_is, described_is}
 use Rattle.model.specs.Descriptor.{with_kind, with_jumps, has_jumps, is_kind}
 use Rattle.model.specs.Jumps.{word, concat_jumps, linked, jump_list, need_value, patch_list_aux}

@@ -1,3 +1,7 @@
+pub mod Want
+pub mod Operand
+pub mod Spot
+pub mod Brought
 pub mod Bringing
 pub mod Changes
 pub mod Kinds

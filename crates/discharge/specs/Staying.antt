@@ -1,5 +1,5 @@
 -- Bringing a descriptor leaves its aux, its number and its bits as they are, and of the state the place in the chunk, the line and the number of locals. Assumes nothing.
-use Rattle.std.specs.Prelude.{ℕ, ◌+◌, ◌-◌, max, Bool, not, ◌&&◌, ◌||◌, List, [], ◌≡◌, refl, leb, ltb, negsuc, length, set}
+use Rattle.std.specs.Prelude.{ℕ, ◌+◌, ◌-◌, max, Bool, not, ◌&&◌, ◌||◌, List, [], ◌≡◌, refl, leb, ltb, negsuc, length, set, Ok, Err}
 use Rattle.std.proofs.Math.Bool.{true, false}
 use Rattle.std.proofs.Common.{ap, subst, ◌∙◌}
 use Rattle.std.proofs.Math.Dec.{eqb}
@@ -7,25 +7,23 @@ use Rattle.refusals.specs.declared.Refusal.TheVariants.{Words, Registers}
 use Rattle.instructions.specs.Limits.{max_words, max_stack, max_index_rk, bit_rk}
 use Rattle.instructions.specs.Word.{b_of, set_b_of, a_sbx_of}
 use Rattle.opcodes.specs.declared.OpCode.TheVariants as op
-use Rattle.constants.specs.Table.{added, Out}
+use Rattle.constants.specs.Table.{added, Out, Added}
 use Rattle.constants.specs.declared.Val.{Val}
 use Rattle.constants.specs.declared.Val.TheVariants as val
-use Rattle.constants.specs.declared.Added.{Added}
-use Rattle.constants.specs.declared.Added.TheVariants as answer
 use Rattle.model.specs.declared.ExprKind.{ExprKind}
 use Rattle.model.specs.declared.ExprKind.TheVariants as kind
 use Rattle.model.specs.declared.ExprContext.{ExprContext}
 use Rattle.model.specs.declared.State.{State}
-use Rattle.model.specs.declared.Described.{Described}
-use Rattle.model.specs.declared.Described.TheVariants as described
+use Rattle.model.specs.Described.{Described}
+use Rattle.model.specs.Described as described
 use Rattle.model.specs.Steps.{Buffers, Step, Result, done, refused, and_then, skip, return, refuse, get, change, change_words, described_is}
 use Rattle.model.specs.Descriptor.{with_kind, with_jumps, has_jumps, is_kind}
 use Rattle.model.specs.Jumps.{word, jump_list, need_value, remove_values}
 use Rattle.model.specs.Emission.{with_pc, with_label, with_frame, with_free, with_jpc, no_room, store, discharge_jpc, push, emit_at, emit, emit_abc, emit_abx, concat, emit_jump, patch_to_here, get_label, code_label, adjoins, load_nil, emit_nil, check_stack, reserve_regs, alloc_reg, free_reg, keep, stored_in, add_constant}
 use Rattle.model.specs.Discharge.{discharge_kind, discharge_vars, free_expr, load_kind, move, discharge2reg, land, load_both, settle, join_jump, exp2reg, exp2nextreg, exp2anyreg, exp2val, small, near, rk_kind, exp2rk}
 use Rattle.emission.specs.Laws.{branch}
-use Rattle.discharge.specs.declared.Want.{Want}
-use Rattle.discharge.specs.declared.Want.TheVariants as want
+use Rattle.discharge.specs.Want.{Want}
+use Rattle.discharge.specs.Want as want
 use Rattle.discharge.specs.Changes.{changes, changed}
 use Rattle.discharge.specs.Kinds.{over_of, load_yes, placed, any_of}
 use Rattle.discharge.specs.Wants.{wanted}
@@ -193,8 +191,8 @@ module _ (s : State) (m : Buffers) where
   adds chunk v = go (added chunk s.table v m.kinds m.values m.pool)
     where
       kept : (a : Added) (k : Buffers) → Moves s (keep a s k)
-      kept (answer.At i t) k = (refl, tt)
-      kept (answer.Refused r) k = tt
+      kept (Ok (i, t)) k = (refl, tt)
+      kept (Err r) k = tt
 
       go : (o : Out) → Moves s (stored_in s m o)
       go o = kept o.answer _

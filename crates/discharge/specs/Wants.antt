@@ -1,23 +1,18 @@
--- What a descriptor is wanted as, and the parts of `bring`. Assumes nothing.
-use Rattle.std.specs.Prelude.{ℕ, Bool, true, false, not, ◌≡◌}
+-- Bringing a descriptor to what is wanted, as one definition, and its parts, which laws speak of. Assumes nothing.
+use Rattle.std.specs.Prelude.{ℕ, Bool, true, false, not}
 use Rattle.model.specs.declared.ExprKind.{ExprKind}
 use Rattle.model.specs.declared.ExprKind.TheVariants as kind
 use Rattle.model.specs.declared.ExprContext.{ExprContext}
 use Rattle.model.specs.declared.State.{State}
-use Rattle.model.specs.declared.Described.{Described}
 use Rattle.model.specs.Steps.{Buffers, Result, done, refused, Step, and_then, return}
-use Rattle.buffers.specs.Lent.{Lent}
-use Rattle.model.specs.Relations.{AnswersConstants, Describes, DescribesWords}
 use Rattle.model.specs.Descriptor.{with_kind, has_jumps}
 use Rattle.model.specs.Discharge.{discharge_vars, load_kind, discharge2reg, exp2reg, exp2nextreg, exp2anyreg, exp2val, exp2rk}
-use Rattle.discharge.specs.declared.Brought.{Brought}
-use Rattle.discharge.specs.declared.Want.{Want}
-use Rattle.discharge.specs.declared.Want.TheVariants.{Vars, Load, Reg, Next, Any, Val, Rk}
-use Rattle.discharge.specs.declared.Operand.{Operand}
-use Rattle.discharge.specs.declared.Operand.TheVariants as operand
-use Rattle.discharge.specs.declared.Spot.{Spot}
-use Rattle.discharge.specs.declared.Spot.TheVariants as spot
-use Rattle.discharge.specs.Changes.{changed}
+use Rattle.discharge.specs.Want.{Want}
+use Rattle.discharge.specs.Want.{Vars, Load, Reg, Next, Any, Val, Rk}
+use Rattle.discharge.specs.Operand.{Operand}
+use Rattle.discharge.specs.Operand as operand
+use Rattle.discharge.specs.Spot.{Spot}
+use Rattle.discharge.specs.Spot as spot
 use Rattle.discharge.specs.Kinds.{placed}
 
 -- the definition that each is; `Load` and `Reg` want it in the register that is named
@@ -120,15 +115,3 @@ abbrev pub spot_is : Want → ExprContext → State → Spot → Buffers → Res
 spot_is w e st spot.Stay m = done e st m
 spot_is w e st (spot.At s reg) m = there_of w e reg s m
 spot_is w e st (spot.Refused k) m = refused k m
-
--- contracts: an operand, or the rest is `reg_of`
-abbrev pub Rests : Want → ℕ → ExprContext → Step ExprContext → State → Operand → Lent → Lent → Lent → Type 0
-Rests w reg e x s r = AnswersConstants x s (rest_is w reg e r)
-
--- what is wanted; where that is only a value, the constants are not touched
-abbrev pub Brings : Want → ℕ → ExprContext → State → Described → Lent → Lent → Lent → Lent → Lent → Type 0
-Brings w reg e s r code lines kinds values pool = Describes (wanted w reg e) s r code lines kinds values pool × (only_value w ≡ true → DescribesWords (discharge_vars e) s r code lines)
-
--- .. of a state and a descriptor that came by their numbers, from what `bring_fields` gives back
-abbrev pub BringsBack : State → ExprContext → Want → ℕ → Brought → Lent → Lent → Lent → Lent → Lent → Type 0
-BringsBack s₀ e₀ w reg r code lines kinds values pool = (s : State) (e : ExprContext) → s₀ ≡ s → e₀ ≡ e → Brings w reg e s (changed r s e) code lines kinds values pool

@@ -11,9 +11,8 @@ use Rattle.refusals.specs.declared.Refusal.TheVariants.{Words, Registers}
 use Rattle.instructions.specs.Limits.{no_reg, bit_rk, max_words, max_stack}
 use Rattle.instructions.specs.Word.{b_of, a_sbx_of, set_b_of}
 use Rattle.opcodes.specs.declared.OpCode.TheVariants.{LoadBool, LoadNil, Jmp}
-use Rattle.constants.specs.Table.{added, out}
+use Rattle.constants.specs.Table.{added, out, Added}
 use Rattle.constants.specs.declared.Val.{Val}
-use Rattle.constants.specs.declared.Added.{Added}
 use Rattle.model.specs.declared.State.{State}
 use Rattle.model.specs.Steps.{Buffers, bufs, Step, Result, done, refused, and_then, change, change_words, skip, refuse}
 use Rattle.model.specs.Jumps.{word, concat_jumps, linked, remove_values, patch_list_aux}

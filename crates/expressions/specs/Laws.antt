@@ -11,8 +11,8 @@ use Rattle.ast.specs.declared.Two.TheVariants as two
 use Rattle.chunk.specs.declared.header.Header.{Header}
 use Rattle.model.specs.declared.ExprContext.{ExprContext}
 use Rattle.model.specs.declared.State.{State}
-use Rattle.model.specs.declared.Described.{Described}
-use Rattle.model.specs.declared.Described.TheVariants as described
+use Rattle.model.specs.Described.{Described}
+use Rattle.model.specs.Described as described
 use Rattle.model.specs.Steps.{Buffers, Step, Result, refused, and_then, described_is}
 use Rattle.model.specs.Discharge.{discharge_vars, exp2anyreg}
 use Rattle.model.specs.Operators.{before_right, after_right, code_unop}

@@ -1,6 +1,6 @@
 -- Each way through the recursion, with what holds on the way, in the code's order. Assumes nothing.
 use Prim.Native.Nat.{ℕ, zero, suc, ◌-◌, ◌<◌}
-use Rattle.std.specs.Prelude.{List, ◌≡◌}
+use Rattle.std.specs.Prelude.{List, ◌≡◌, Result as Read, Ok, Err}
 use Rattle.std.proofs.Math.Path.{refl, ap}
 use Rattle.std.proofs.Common.{◌∙◌}
 use native.Mathlib.Omega.{arith}
@@ -14,8 +14,6 @@ use Rattle.ast.specs.declared.Many.{Many}
 use Rattle.ast.specs.declared.Head.{Head}
 use Rattle.ast.specs.declared.Head.TheVariants as head
 use Rattle.ast.specs.declared.Node.{Node}
-use Rattle.nodes.specs.declared.node.NodeRead.{NodeRead}
-use Rattle.nodes.specs.declared.node.NodeRead.TheVariants as read
 use Rattle.chunk.specs.declared.header.Header.{Header}
 use Rattle.model.specs.declared.ExprContext.{ExprContext}
 use Rattle.model.specs.declared.State.{State}
@@ -39,19 +37,19 @@ module _ (chunk : List ℕ) (h : Header) where
     unfolding compile_expr
     expr_none e = ap (λ (n : ℕ). compile_expr chunk h n s m) e
 
-    module _ (some : left ≡ 0 → ⊥) {n : NodeRead} (at : node_at chunk h.varargs s.at s.line ≡ n) where
+    module _ (some : left ≡ 0 → ⊥) {n : Read Node Refusal} (at : node_at chunk h.varargs s.at s.line ≡ n) where
       more : compile_expr chunk h left s m ≡ compile_node chunk h (compile_expr chunk h (left - 1)) n s m
       unfolding compile_expr and_then
-      more = go left some ∙ ap (λ (x : NodeRead). compile_node chunk h (compile_expr chunk h (left - 1)) x s m) at
+      more = go left some ∙ ap (λ (x : Read Node Refusal). compile_node chunk h (compile_expr chunk h (left - 1)) x s m) at
         where
           go : (k : ℕ) → (k ≡ 0 → ⊥) → compile_expr chunk h k s m ≡ compile_node chunk h (compile_expr chunk h (k - 1)) (node_at chunk h.varargs s.at s.line) s m
           go zero i = absurd (i refl)
           go (suc k) i = let q : suc k - 1 ≡ k = omega arith in rw q
 
-      pub expr_refused : {r : Refusal} → n ≡ read.Refused r → compile_expr chunk h left s m ≡ refused r m
-      expr_refused q = more ∙ ap (λ (x : NodeRead). compile_node chunk h (compile_expr chunk h (left - 1)) x s m) q
+      pub expr_refused : {r : Refusal} → n ≡ Err r → compile_expr chunk h left s m ≡ refused r m
+      expr_refused q = more ∙ ap (λ (x : Read Node Refusal). compile_node chunk h (compile_expr chunk h (left - 1)) x s m) q
 
-      module _ {d : Node} (q : n ≡ read.Node d) {u : State} (w : with_place d.next d.line s ≡ u) where
+      module _ {d : Node} (q : n ≡ Ok d) {u : State} (w : with_place d.next d.line s ≡ u) where
         abbrev lowered : Head → Result ExprContext
         lowered x = compile_head chunk h (compile_expr chunk h (left - 1)) x u m
 
@@ -59,7 +57,7 @@ module _ (chunk : List ℕ) (h : Header) where
         unfolding and_then
         headed =
             more
-            ∙ ap (λ (x : NodeRead). compile_node chunk h (compile_expr chunk h (left - 1)) x s m) q
+            ∙ ap (λ (x : Read Node Refusal). compile_node chunk h (compile_expr chunk h (left - 1)) x s m) q
             ∙ ap (λ (v : State). compile_head chunk h (compile_expr chunk h (left - 1)) d.head v m) w
 
         pub expr_leaf : {l : Leaf} {r : Result ExprContext} → d.head ≡ head.Leaf l → leaf_expr chunk h l u m ≡ r → compile_expr chunk h left s m ≡ r

@@ -1,5 +1,5 @@
 -- The whole lowering case by case: what holds of the form's refusals, of a scratch that is too short, and of the end of the lowering of every chunk that has the form and room for its places, holds of `lowered`. Assumes nothing.
-use Rattle.std.specs.Prelude.{ℕ, ◌≤◌, ◌<◌, Bool, ◌≡◌, List, length}
+use Rattle.std.specs.Prelude.{ℕ, ◌≤◌, ◌<◌, Bool, ◌≡◌, List, length, Result, Ok}
 use Rattle.std.proofs.Math.Bool.{true, false}
 use Rattle.std.proofs.Math.Path.{refl, subst}
 use Rattle.std.proofs.Common.{sym, leb-true, leb-false}
@@ -9,10 +9,9 @@ use Rattle.refusals.specs.declared.Refusal.TheVariants as refusal
 use Rattle.chunk.specs.Ast.{Chunk, spans_of, places_of}
 use Rattle.chunk.specs.Form.{Formed, formed, unformed, form_of}
 use Rattle.chunk.specs.Headers.{header_at}
-use Rattle.chunk.specs.declared.header.HeaderRead.{HeaderRead}
-use Rattle.chunk.specs.declared.header.HeaderRead.TheVariants as header
 use Rattle.model.specs.Lowering.{Sizes, cleared, start, lower_chunk, Out, refusal_of, ended, with_header, lower_formed, lowered}
 use Rattle.faithful.specs.Accepted.{Accepted, accepted}
+use Rattle.chunk.specs.declared.header.Header.{Header}
 
 abbrev places : Chunk → List ℕ
 places c = places_of (spans_of c.formulas)
@@ -26,7 +25,7 @@ module _ (z : Sizes) (chunk : List ℕ) (P : Out → Type 0) (unread : (x : Refu
   unfolding lower_formed
   formed_cases c form a well = go (leb (length (places c)) z.scratch) refl (header_at chunk) a.is_head
     where
-      go : (t : Bool) → leb (length (places c)) z.scratch ≡ t → (r : HeaderRead) → r ≡ header.Header a.head →
+      go : (t : Bool) → leb (length (places c)) z.scratch ≡ t → (r : Result Header Refusal) → r ≡ Ok a.head →
           P (elim t as (λ (_ : Bool). Out) [ false ↦ refusal_of z refusal.Scratch | true ↦ with_header z r λ h. ended z (places c) (lower_chunk chunk h (start h.next h.locals) (cleared z)) ])
       go false l r e = short c form (leb-false _ _ l)
       go true l r e = subst (λ y. P (with_header z y λ h. ended z (places c) (lower_chunk chunk h (start h.next h.locals) (cleared z)))) (sym e) (well c form a (leb-true _ _ l))

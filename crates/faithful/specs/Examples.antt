@@ -30,7 +30,7 @@ use Rattle.model.specs.Lowering.{formulas, lower_chunk, lower_formed, lowered}
 use Rattle.chunk.specs.Ast.{Chunk}
 use Rattle.chunk.specs.Form.{formed}
 use Rattle.model.specs.declared.Counts.{Counts}
-use Rattle.model.specs.declared.Lowered.TheVariants as answer
+use Rattle.std.specs.Prelude as answer
 use Rattle.model.specs.Lowering.{Sizes}
 use Rattle.model.specs.Rows.{nils, p5_chunk as p5}
 use Rattle.model.specs.Values.{Value, truth, World}
@@ -60,7 +60,7 @@ record Met (z : Sizes) (chunk : List ℕ) (n : ℕ) : Type 0 where
   form : form_of chunk ≡ formed tree
   named : n ≡ length tree.names
   counts : Counts
-  answers : (lowered z chunk).answer ≡ answer.Done counts
+  answers : (lowered z chunk).answer ≡ answer.Ok counts
 
 -- the run of what is accepted, whatever the outside, the locals and the varargs
 runs : (z : Sizes) (chunk : List ℕ) → Bytes chunk → (w : World) (locals varargs : List Value) (h : Met z chunk (length locals)) →

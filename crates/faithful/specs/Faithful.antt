@@ -10,7 +10,7 @@ use Rattle.instructions.specs.Limits.{max_constants}
 use Rattle.instructions.specs.Word.{abc_of}
 use Rattle.opcodes.specs.declared.OpCode.TheVariants as op
 use Rattle.model.specs.declared.Counts.{Counts}
-use Rattle.model.specs.declared.Lowered.TheVariants as answer
+use Rattle.std.specs.Prelude as answer
 use Rattle.model.specs.declared.State.{State}
 use Rattle.model.specs.Values.{Value, World}
 use Rattle.model.specs.Reading.{reading}
@@ -37,7 +37,7 @@ use Rattle.faithful.specs.Cases.{lowered_cases}
 module _ (chunk : List ℕ) (c : Chunk) (w : World) (locals varargs : List Value) where
   -- what is shown of an outcome
   abbrev Good : Counts → Out → Type 0
-  Good k o = o.answer ≡ answer.Done k → RunsAsRead chunk c w locals varargs k o.buffers
+  Good k o = o.answer ≡ answer.Ok k → RunsAsRead chunk c w locals varargs k o.buffers
 
   refused_good : (z : Sizes) (k : Counts) (x : Refusal) → Good k (refusal_of z x)
   refused_good z k x d = absurd (let u : ◌≡◌ {A = ℕ} 0 1 = cc in omega arith)
@@ -67,7 +67,7 @@ module _ (chunk : List ℕ) (c : Chunk) (w : World) (locals varargs : List Value
     ended_good z k places r (gives tt s m e L) = subst (λ y. Good k (ended z places y)) (sym e) (λ d. let u : counts_of s ≡ k = cc in subst (λ y. RunsAsRead chunk c w locals varargs y m) u (from_labelled s m L))
 
 -- DEMAND 3
-pub faithful : (z : Sizes) (chunk : List ℕ) → Bytes chunk → (c : Chunk) → form_of chunk ≡ formed c → (k : Counts) → (lowered z chunk).answer ≡ answer.Done k → (w : World) (locals varargs : List Value) → length locals ≡ length c.names →
+pub faithful : (z : Sizes) (chunk : List ℕ) → Bytes chunk → (c : Chunk) → form_of chunk ≡ formed c → (k : Counts) → (lowered z chunk).answer ≡ answer.Ok k → (w : World) (locals varargs : List Value) → length locals ≡ length c.names →
     (n : ℕ) × ((n ≤ k.words) × (run w (program k (lowered z chunk).buffers) locals varargs ≡ returned (reading w chunk c locals varargs).gives (reading w chunk c locals varargs).steps n))
 faithful z chunk bytes c form k d w locals varargs each = lowered_cases z chunk (Good chunk c w locals varargs k) (λ x e. refused_good chunk c w locals varargs z k x) (λ t e l. refused_good chunk c w locals varargs z k refusal.Scratch) well d
   where

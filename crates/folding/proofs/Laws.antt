@@ -1,6 +1,6 @@
 -- What a caller knows of a numeral that folding answers: it is no NaN, its bits are those of its double and a number of 64 bits, so that it is the numeral of its bits.
 -- `add`, `sub`, `mul` and `div` round to a double of the format and `neg` keeps one, so that `of_bits-to_bits` gives the double back. Assumes nothing.
-use Rattle.std.specs.Prelude.{◌≡◌, ℕ, ◌^◌, ◌<◌, true, not, T, from_bits, is_nan, Float}
+use Rattle.std.specs.Prelude.{◌≡◌, ℕ, ◌^◌, ◌<◌, true, not, T, from_bits, is_nan, Float, Some}
 use Rattle.std.proofs.Common.{sym, ap, subst}
 use Rattle.std.specs.Float.{binary64}
 use Rattle.std.specs.Float.Ieee.{add, sub, mul, div, neg, fits}
@@ -10,7 +10,6 @@ use Rattle.folding.specs.Floor.{floor}
 use Rattle.folding.specs.Numeral.{numeral_of, Sound}
 use Rattle.folding.specs.Folding.{modulo, is_zero, fold_of}
 use Rattle.folding.specs.declared.Numeral.{Numeral}
-use Rattle.folding.specs.declared.Fold.TheVariants.{Folded}
 use Rattle.folding.specs.declared.Arith.{Arith}
 use Rattle.folding.specs.declared.Arith.TheVariants.{Add, Sub, Mul, Div, Mod, Pow, Unm}
 use Rattle.folding.specs.Laws.{made_by, Made, kept_is, folded_is, divided_is, made_sound}
@@ -24,7 +23,7 @@ made_fits Mod a b f = sub-fits binary64 a (mul binary64 (floor (div binary64 a b
 made_fits Pow a b f = nan-fits binary64
 made_fits Unm a b f = neg-fits binary64 a f
 
-pub fold_is : {n : Numeral} (op : Arith) (a b : Float) → fold_of op a b ≡ Folded n → Made (made_by op a b) n
+pub fold_is : {n : Numeral} (op : Arith) (a b : Float) → fold_of op a b ≡ Some n → Made (made_by op a b) n
 unfolding fold_of
 fold_is Add a b h = folded_is (add binary64 a b) h
 fold_is Sub a b h = folded_is (sub binary64 a b) h
@@ -34,15 +33,15 @@ fold_is Mod a b h = divided_is (is_zero b) (modulo a b) h
 fold_is Pow a b h = kept_is h
 fold_is Unm a b h = folded_is (neg a) h
 
-pub folded_no_nan : {n : Numeral} (op : Arith) (a b : Float) → fold_of op a b ≡ Folded n → T (not (is_nan n.value))
+pub folded_no_nan : {n : Numeral} (op : Arith) (a b : Float) → fold_of op a b ≡ Some n → T (not (is_nan n.value))
 folded_no_nan op a b h = let m = fold_is op a b h in rw (m.value_is, m.number) tt
 
 -- the second operand needs no condition, since only negation answers an operand
-pub fold_sound : {n : Numeral} (op : Arith) (a b : Float) → fits binary64 a ≡ true → fold_of op a b ≡ Folded n → Sound n
+pub fold_sound : {n : Numeral} (op : Arith) (a b : Float) → fits binary64 a ≡ true → fold_of op a b ≡ Some n → Sound n
 fold_sound op a b f h = made_sound (made_fits op a b (subst T (sym f) tt)) (fold_is op a b h)
 
 -- ---- folding numerals of bits answers the numeral of its bits
-module _ {n : Numeral} (op : Arith) (x y : ℕ) (h : fold_of op (from_bits binary64 x) (from_bits binary64 y) ≡ Folded n) where
+module _ {n : Numeral} (op : Arith) (x y : ℕ) (h : fold_of op (from_bits binary64 x) (from_bits binary64 y) ≡ Some n) where
   answer : Made (made_by op (from_bits binary64 x) (from_bits binary64 y)) n
   answer = fold_is op (from_bits binary64 x) (from_bits binary64 y) h
 

@@ -1,6 +1,6 @@
 -- What a caller knows of a numeral that folding answers: it is no NaN, its bits are those of its double and a number of 64 bits, so that it is the numeral of its bits.
 -- `add`, `sub`, `mul` and `div` round to a double of the format and `neg` keeps one, so that `of_bits-to_bits` gives the double back. Assumes nothing.
-use Rattle.std.specs.Prelude.{◌≡◌, ℕ, Bool, true, false, T, is_nan, to_bits, refl, Float}
+use Rattle.std.specs.Prelude.{◌≡◌, ℕ, Bool, true, false, T, is_nan, to_bits, refl, Float, Some, None}
 use Rattle.std.proofs.Common.{sym, ap, arith}
 use Rattle.std.specs.Float.{nan, binary64}
 use Rattle.std.specs.Float.Ieee.{add, sub, mul, div, neg, fits}
@@ -8,7 +8,6 @@ use Rattle.std.specs.Float.Ieee.Bits.{of_bits-to_bits}
 use Rattle.folding.specs.Numeral.{numeral_of, Sound, unless, folded}
 use Rattle.folding.specs.Folding.{modulo, on_divisor}
 use Rattle.folding.specs.declared.Numeral.{Numeral}
-use Rattle.folding.specs.declared.Fold.TheVariants.{Folded, Kept}
 use Rattle.folding.specs.declared.Arith.{Arith}
 use Rattle.folding.specs.declared.Arith.TheVariants.{Add, Sub, Mul, Div, Mod, Pow, Unm}
 
@@ -28,19 +27,19 @@ pub record Made (x : Float) (n : Numeral) : Type 0 where
   pub value_is : n.value ≡ x
   pub bits_are : n.bits ≡ to_bits binary64 x
 
-pub kept_is : {A : Type 0} {n : Numeral} → Kept ≡ Folded n → A
+pub kept_is : {A : Type 0} {n : Numeral} → None ≡ Some n → A
 kept_is h = absurd (let z : ◌≡◌ {A = ℕ} 0 1 = cc in omega arith)
 
-pub folded_is : {n : Numeral} (x : Float) → folded x ≡ Folded n → Made x n
+pub folded_is : {n : Numeral} (x : Float) → folded x ≡ Some n → Made x n
 folded_is {n} x h = go (is_nan x) refl h
   where
-    go : (t : Bool) → is_nan x ≡ t → unless t x ≡ Folded n → Made x n
+    go : (t : Bool) → is_nan x ≡ t → unless t x ≡ Some n → Made x n
     go true e g = kept_is g
     go false e g =
         let same : record { value = x; bits = to_bits binary64 x } ≡ n = cc in
         record { number = e; value_is = sym (ap (λ (m : Numeral). m.value) same); bits_are = sym (ap (λ (m : Numeral). m.bits) same) }
 
-pub divided_is : {n : Numeral} (t : Bool) (x : Float) → on_divisor t x ≡ Folded n → Made x n
+pub divided_is : {n : Numeral} (t : Bool) (x : Float) → on_divisor t x ≡ Some n → Made x n
 divided_is true x h = kept_is h
 divided_is false x h = folded_is x h
 

@@ -1,9 +1,7 @@
 -- A numeral carries its bits and the double that they stand for; the logic has one NaN, and the bits tell numerals apart. Assumes nothing.
-use Rattle.std.specs.Prelude.{◌≡◌, ℕ, Bool, true, false, from_bits, is_nan, to_bits, Float}
+use Rattle.std.specs.Prelude.{◌≡◌, ℕ, Bool, true, false, from_bits, is_nan, to_bits, Float, Option, Some, None}
 use Rattle.std.specs.Float.{binary64}
 use Rattle.folding.specs.declared.Numeral.{Numeral}
-use Rattle.folding.specs.declared.Fold.{Fold}
-use Rattle.folding.specs.declared.Fold.TheVariants.{Folded, Kept}
 
 -- the numeral of a pattern: `of_bits` takes every NaN's pattern to the one NaN
 abbrev pub numeral_of : ℕ → Numeral
@@ -13,10 +11,14 @@ numeral_of b = record { value = from_bits binary64 b; bits = b }
 abbrev pub Sound : Numeral → Type 0
 Sound n = n.value ≡ from_bits binary64 n.bits
 
+-- what folding answers: a numeral, or nothing where the operation is kept for the run
+abbrev pub Fold : Type 0
+Fold = Option Numeral
+
 -- nothing where it is a NaN, which the truth value says
 abbrev pub unless : Bool → Float → Fold
-unless true x = Kept
-unless false x = Folded (record { value = x; bits = to_bits binary64 x })
+unless true x = None
+unless false x = Some (record { value = x; bits = to_bits binary64 x })
 
 -- a result that isn't a NaN, with its bits
 abbrev pub folded : Float → Fold

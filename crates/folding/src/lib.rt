@@ -30,7 +30,7 @@ impl Numeral {
     {
         if is_nan_pattern(bits) {
             return Numeral {
-                value: 0.0 / 0.0,
+                value: f64::NAN,
                 bits,
             };
         }
@@ -42,7 +42,7 @@ impl Numeral {
 }
 
 // The operators that make a number of numbers; Unm has one operand, its first.
-#[derive(Clone, Copy)]
+#[derive(Clone, Copy, PartialEq, Eq, Debug)]
 pub enum Arith {
     Add,
     Sub,
@@ -53,13 +53,7 @@ pub enum Arith {
     Unm,
 }
 
-#[derive(Clone, Copy)]
-pub enum Fold {
-    Folded(Numeral),
-    Kept,
-}
-
-// The largest whole number that is not above x; x itself where it is a NaN, an infinity or a zero.
+// The largest whole number that is not above x; x itself where it is a NaN, an infinity or a zero. Worked out here, as document 01 asks ("Forms and where they belong"), and not by the library's `floor`.
 pub fn floor(x: f64) -> f64
     ensures { floor_of x ≡ result }
 {
@@ -89,22 +83,21 @@ fn modulo(a: f64, b: f64) -> f64
 }
 
 // A result, with its bits, unless it is a NaN.
-#[tactic(auto, using(crate::proofs::Floats::ne_nan))]
-fn result(x: f64) -> Fold
+fn result(x: f64) -> Option<Numeral>
     ensures { folded x ≡ result }
 {
-    if x != x {
-        return Fold::Kept;
+    if x.is_nan() {
+        return None;
     }
-    Fold::Folded(Numeral {
+    Some(Numeral {
         value: x,
-        bits: f64::to_bits(x),
+        bits: x.to_bits(),
     })
 }
 
 // The numeral that an operation on numerals is folded to, or that it is kept for the run.
 #[tactic(auto, unfolding(crate::specs::Folding::fold_of))]
-pub fn const_fold(op: Arith, a: f64, b: f64) -> Fold
+pub fn const_fold(op: Arith, a: f64, b: f64) -> Option<Numeral>
     ensures { fold_of op a b ≡ result }
 {
     match op {
@@ -113,17 +106,17 @@ pub fn const_fold(op: Arith, a: f64, b: f64) -> Fold
         Arith::Mul => result(a * b),
         Arith::Div => {
             if b == 0.0 { // a / 0 is kept, and a / -0
-                return Fold::Kept;
+                return None;
             }
             result(a / b)
         }
         Arith::Mod => {
             if b == 0.0 { // a % 0 is kept, and a % -0
-                return Fold::Kept;
+                return None;
             }
             result(modulo(a, b))
         }
-        Arith::Pow => Fold::Kept,
+        Arith::Pow => None,
         Arith::Unm => result(-a),
     }
 }

@@ -43,6 +43,7 @@ pub const MAX_WORDS: usize = MAXARG_SBX;
 // ---- words
 
 // The field of `size` values at the place value `place`.
+#[tactic(auto, unfolding(crate::specs::Field::get_at))]
 fn field(x: u32, place: u32, size: u32) -> u32
     requires { (0 < place) × (0 < size) }
     ensures { get_at place size x ≡ result }
@@ -66,25 +67,27 @@ fn excess(v: i32) -> u32
     ((n as u64) % 262144) as u32
 }
 
-#[derive(Clone, Copy)]
+#[derive(Clone, Copy, PartialEq, Eq, Debug)]
 pub struct Instruction {
     pub raw: u32,
 }
 
 impl Instruction {
+    #[tactic(auto, unfolding(crate::specs::Word::abc_of))]
     pub fn abc(op: OpCode, a: u32, b: u32, c: u32) -> Self
         ensures { abc_of op a b c ≡ result.raw }
     {
         Self {
-            raw: op.number() + a % 256 * 64 + c % 512 * 16384 + b % 512 * 8388608,
+            raw: u32::from(op) + a % 256 * 64 + c % 512 * 16384 + b % 512 * 8388608,
         }
     }
 
+    #[tactic(auto, unfolding(crate::specs::Word::a_bx_of))]
     pub fn a_bx(op: OpCode, a: u32, bx: u32) -> Self
         ensures { a_bx_of op a bx ≡ result.raw }
     {
         Self {
-            raw: op.number() + a % 256 * 64 + bx % 262144 * 16384,
+            raw: u32::from(op) + a % 256 * 64 + bx % 262144 * 16384,
         }
     }
 
@@ -97,7 +100,7 @@ impl Instruction {
     pub fn opcode(self) -> OpCode
         ensures { opcode_of self.raw ≡ result }
     {
-        OpCode::from_u32(field(self.raw, 1, 64))
+        OpCode::from(field(self.raw, 1, 64))
     }
 
     // The opcode field as a number, 0 to 63.

@@ -86,14 +86,12 @@ fn last_jump(code: &[u32], list: usize) -> usize
     ensures { last_jump (length (bytes code)) (bytes code) list ≡ result }
 {
     let mut l = list;
-    let mut left = code.len();
-    while 0 < left {
+    for _ in 0..code.len() {
         let next = get_jump_target(code, l);
         if next == 0 {
             return l;
         }
         l = next;
-        left -= 1;
     }
     l
 }
@@ -144,7 +142,7 @@ fn is_test_set(w: u32) -> bool
     ensures { eqb (op_of w) (code_of TestSet) ≡ result }
 {
     let i = Instruction { raw: w };
-    i.op() == OpCode::TestSet.number()
+    i.op() == u32::from(OpCode::TestSet)
 }
 
 // Whether some jump of the list isn't controlled by a `TestSet`.
@@ -152,18 +150,14 @@ pub fn need_value(code: &[u32], list: usize) -> bool
     ensures { need_value (length (bytes code)) (bytes code) list ≡ result }
 {
     let mut l = list;
-    let mut left = code.len();
-    while 0 < left {
+    for _ in 0..code.len() {
         if l == 0 {
             return false;
         }
-        let w = word_at(code, control(code, l));
-        if is_test_set(w) {
-            l = get_jump_target(code, l);
-            left -= 1;
-        } else {
+        if !is_test_set(word_at(code, control(code, l))) {
             return true;
         }
+        l = get_jump_target(code, l);
     }
     false
 }
@@ -210,14 +204,12 @@ pub fn remove_values(code: &mut [u32], list: usize)
     ensures { remove_values (length (old code)) (old code) list ≡ new code }
 {
     let mut l = list;
-    let mut left = code.len();
-    while 0 < left {
+    for _ in 0..code.len() {
         if l == 0 {
             return;
         }
         patch_test_reg(code, l, NO_REG);
         l = get_jump_target(code, l);
-        left -= 1;
     }
 }
 
@@ -237,15 +229,13 @@ pub fn patch_list_aux(code: &mut [u32], list: usize, vtarget: usize, reg: usize,
     ensures { patch_list_aux (length (old code)) (old code) list vtarget reg dtarget ≡ new code }
 {
     let mut l = list;
-    let mut left = code.len();
-    while 0 < left {
+    for _ in 0..code.len() {
         if l == 0 {
             return;
         }
         let next = get_jump_target(code, l);
         patch_first(code, l, vtarget, reg, dtarget);
         l = next;
-        left -= 1;
     }
 }
 

@@ -1,7 +1,8 @@
 -- Operators: concatenation, not, and, or, arithmetic with folding, comparisons, negation, length. A numeral that waits may be loaded last, for the right operand survives it.
 -- What rests on something that a must-fail edit breaks stands in proofs/Binary.antt.
+use Rattle.folding.specs.Numeral.{Fold}
 use Prim.Native.Nat.{ℕ, suc, ◌≤◌, ◌<◌}
-use Rattle.std.specs.Prelude.{Bool, ◌≡◌, List, [], ◌∷◌}
+use Rattle.std.specs.Prelude.{Bool, ◌≡◌, List, [], ◌∷◌, Some, None}
 use Rattle.std.proofs.Math.Bool.{true, false}
 use Rattle.std.proofs.Math.Path.{refl, ap}
 use Rattle.std.proofs.Common.{sym, ◌∙◌, arith as nat}
@@ -17,8 +18,6 @@ use Rattle.labelled.specs.Conditions.{go_if, not_s, labelled_code_not}
 use Rattle.labelled.specs.Outcomes.{size_push}
 use Rattle.folding.specs.declared.Arith.{Arith}
 use Rattle.folding.specs.declared.Arith.TheVariants as arith
-use Rattle.folding.specs.declared.Fold.{Fold}
-use Rattle.folding.specs.declared.Fold.TheVariants.{Folded, Kept}
 use Rattle.folding.specs.declared.Numeral.{Numeral}
 use Rattle.labelled.specs.Table.{is_near}
 use Rattle.labelled.specs.Operators.{num_c, num_k, numeral, left_of, late_of, Ops, right_first, left_if, left_first, ari_join, kcmp, cmp_join, neg_join, len_join, log₂, cat_x, cat_k, join_c}
@@ -259,12 +258,12 @@ module _ (Γ : Setting) where
           }
 
   -- arithmetic: two numerals are folded
-  compute_folded : (o : Arith) (v u : ℕ) (z : Numeral) (h : Hist) → folds o (some v) (some u) ≡ Folded z → taken (number z.bits) h ≡ compute Γ.world o (number v) (number u) h
+  compute_folded : (o : Arith) (v u : ℕ) (z : Numeral) (h : Hist) → folds o (some v) (some u) ≡ Some z → taken (number z.bits) h ≡ compute Γ.world o (number v) (number u) h
   unfolding compute
   compute_folded o v u z h e = rw e refl
 
   fold_good : (o : Arith) (A B : Hist → Taken Value) (s : St) (st st₂ : St) (v u : ℕ) (z : Numeral) → Γ.active ≤ s.free → Operand Γ (By A) s.free s (record { st = st; rkv = con (number v) }) → Operand Γ (By B) st.free st (record { st = st₂; rkv = con (number u) }) →
-      folds o (some v) (some u) ≡ Folded z → Good Γ (λ R h. list_of (two A B (compute Γ.world o) h)) s.free s (fresh (kd (kc (knumber z.bits))) s.free st₂)
+      folds o (some v) (some u) ≡ Some z → Good Γ (λ R h. list_of (two A B (compute Γ.world o) h)) s.free s (fresh (kd (kc (knumber z.bits))) s.free st₂)
   unfolding finish_l finish4
   fold_good o A B s st st₂ v u z na o₁ o₂ e = mk_good Γ _ (kd (kc (knumber z.bits))) s.free s.free s st₂ (omega (nat, o₁.nx, o₂.nx)) refl
       (two_pass Γ (By A) (By B) s.free st.free s (record { st = st; rkv = con (number v) }) (record { st = st₂; rkv = con (number u) }) o₁ o₂)
@@ -275,12 +274,12 @@ module _ (Γ : Setting) where
     abbrev Dari : Regs → Hist → Taken (List Value)
     Dari R h = list_of (two A B (compute Γ.world o) h)
 
-    kept_good : (n : Option ℕ) (p q : Par4) → Operand Γ (By A) s.free s (left_of n p) → Operand Γ (By B) (left_of n p).st.free (left_of n p).st (exp2rk q) → Good Γ Dari s.free s (ari_join Kept o s.free n (left_of n p) q)
+    kept_good : (n : Option ℕ) (p q : Par4) → Operand Γ (By A) s.free s (left_of n p) → Operand Γ (By B) (left_of n p).st.free (left_of n p).st (exp2rk q) → Good Γ Dari s.free s (ari_join None o s.free n (left_of n p) q)
     unfolding ari_join right_first finish4 eval
     kept_good n p q o₁ o₂ = late_good n A B s (left_of n p) (exp2rk q) _ (compute Γ.world o) na (waits n p) o₁ o₂ (refl, tt) (λ R h. refl)
 
-    folded_good : (v u : ℕ) (z : Numeral) (p q : Par4) → Operand Γ (By A) s.free s (left_of (some v) p) → Operand Γ (By B) p.st.free p.st (left_of (some u) q) → folds o (some v) (some u) ≡ Folded z →
-        Good Γ Dari s.free s (ari_join (Folded z) o s.free (some v) (left_of (some v) p) q)
+    folded_good : (v u : ℕ) (z : Numeral) (p q : Par4) → Operand Γ (By A) s.free s (left_of (some v) p) → Operand Γ (By B) p.st.free p.st (left_of (some u) q) → folds o (some v) (some u) ≡ Some z →
+        Good Γ Dari s.free s (ari_join (Some z) o s.free (some v) (left_of (some v) p) q)
     unfolding ari_join
     folded_good v u z p q o₁ o₂ e = fold_good o A B s p.st q.st v u z na o₁ o₂ e
 
@@ -292,8 +291,8 @@ module _ (Γ : Setting) where
     ari_good (some v) (some u) p q o₁ oₘ o₂ = go (folds o (some v) (some u)) refl
       where
         go : (z : Fold) → folds o (some v) (some u) ≡ z → Good Γ Dari s.free s (ari_join z o s.free (some v) (left_of (some v) p) q)
-        go Kept e = kept_good (some v) p q o₁ o₂
-        go (Folded z) e = folded_good v u z p q o₁ oₘ e
+        go None e = kept_good (some v) p q o₁ o₂
+        go (Some z) e = folded_good v u z p q o₁ oₘ e
 
   -- comparisons
   abbrev pub cmp_s : Bool → StepKind → Bool → Value → Value → Hist → Taken Value
@@ -354,15 +353,15 @@ module _ (Γ : Setting) where
     unfolding len_join eval
     len_good p o₁ = una_good (len (anyreg p).rgn) (λ v h₁. ask Γ.world length_of (v ∷ []) h₁) (anyreg p).rgn (anyreg p).st tt (λ R h. refl) o₁
 
-    neg_kept : (p : Par4) → Operand Γ (By A) s.free s (as_rk (anyreg p)) → Good Γ Dneg s.free s (neg_join Kept s.free p)
+    neg_kept : (p : Par4) → Operand Γ (By A) s.free s (as_rk (anyreg p)) → Good Γ Dneg s.free s (neg_join None s.free p)
     unfolding neg_join eval
     neg_kept p o₁ = una_good (neg (anyreg p).rgn) (negation Γ.world) (anyreg p).rgn (anyreg p).st tt (λ R h. refl) o₁
 
-    neg_eq : (v : ℕ) (z : Numeral) (h : Hist) → folds arith.Unm (some v) (some v) ≡ Folded z → taken (number z.bits) h ≡ negation Γ.world (number v) h
+    neg_eq : (v : ℕ) (z : Numeral) (h : Hist) → folds arith.Unm (some v) (some v) ≡ Some z → taken (number z.bits) h ≡ negation Γ.world (number v) h
     unfolding negation
     neg_eq v z h e = rw e refl
 
-    neg_folded : (v : ℕ) (z : Numeral) (p : Par4) → folds arith.Unm (some v) (some v) ≡ Folded z → Operand Γ (By A) s.free s (record { st = p.st; rkv = con (number v) }) → Good Γ Dneg s.free s (neg_join (Folded z) s.free p)
+    neg_folded : (v : ℕ) (z : Numeral) (p : Par4) → folds arith.Unm (some v) (some v) ≡ Some z → Operand Γ (By A) s.free s (record { st = p.st; rkv = con (number v) }) → Good Γ Dneg s.free s (neg_join (Some z) s.free p)
     unfolding neg_join finish_l finish4
     neg_folded v z p e o₁ = mk_good Γ _ (kd (kc (knumber z.bits))) s.free s.free s p.st o₁.nx refl o₁.pass
         (λ R h ag c. record {
@@ -378,5 +377,5 @@ module _ (Γ : Setting) where
     neg_good (some v) p oₙ o₁ = go (folds arith.Unm (some v) (some v)) refl
       where
         go : (z : Fold) → folds arith.Unm (some v) (some v) ≡ z → Good Γ Dneg s.free s (neg_join z s.free p)
-        go Kept e = neg_kept p o₁
-        go (Folded z) e = neg_folded v z p e oₙ
+        go None e = neg_kept p o₁
+        go (Some z) e = neg_folded v z p e oₙ

@@ -1,14 +1,13 @@
 -- Labels in the code are below the next one: so a new label has no jump yet. Each operation keeps it, since it writes only labels of descriptors and label 0; then by induction on the trees.
 -- What rests on something that a must-fail edit breaks stands in proofs/Fresh.antt.
-use Rattle.std.specs.Prelude.{ℕ, suc, ◌+◌, ◌≤◌, ◌<◌, Bool, not, ◌≡◌, refl, List, [], ◌∷◌, leb}
+use Rattle.folding.specs.Numeral.{Fold}
+use Rattle.std.specs.Prelude.{ℕ, suc, ◌+◌, ◌≤◌, ◌<◌, Bool, not, ◌≡◌, refl, List, [], ◌∷◌, leb, Some, None}
 use Rattle.std.proofs.Math.Bool.{true, false}
 use Rattle.std.proofs.Common.{sym, subst}
 use Rattle.std.proofs.Math.Option.{Option, some, none}
 use native.Mathlib.Omega.{arith as nat}
 use Rattle.folding.specs.declared.Arith.{Arith}
 use Rattle.folding.specs.declared.Arith.TheVariants as arith
-use Rattle.folding.specs.declared.Fold.{Fold}
-use Rattle.folding.specs.declared.Fold.TheVariants.{Folded, Kept}
 use Rattle.constants.specs.Entry.{Constant, nil as knil, truth as ktruth, number as knumber, text as ktext}
 use Rattle.cursor.specs.Fields.{bytes_of}
 use Rattle.cursor.specs.declared.Text.{Text}
@@ -406,8 +405,8 @@ module _ (n : ℕ) (pos : 1 ≤ n) where
 
   pub ari_new : (z : Fold) (a : Arith) (f : ℕ) (m : Option ℕ) (x : RkS) (p : Par4) → New4 n p → New n (ari_join z a f m x p)
   unfolding ari_join
-  ari_new (Folded z) a f m x p o = fresh_new _ f p.st o.on
-  ari_new Kept a f m x p o = word_new _ f (right_first m x p).st (right_on m x p o)
+  ari_new (Some z) a f m x p o = fresh_new _ f p.st o.on
+  ari_new None a f m x p o = word_new _ f (right_first m x p).st (right_on m x p o)
 
   pub cmp_new : (k : StepKind) (c w : Bool) (f : ℕ) (m : Option ℕ) (x : RkS) (p : Par4) → New4 n p → New n (cmp_join k c w f m x p)
   unfolding cmp_join
@@ -415,8 +414,8 @@ module _ (n : ℕ) (pos : 1 ≤ n) where
 
   pub neg_new : (z : Fold) (f : ℕ) (p : Par4) → New4 n p → New n (neg_join z f p)
   unfolding neg_join
-  neg_new (Folded z) f p o = fresh_new _ f p.st o.on
-  neg_new Kept f p o = word_new _ f (anyreg p).st (any_on p o)
+  neg_new (Some z) f p o = fresh_new _ f p.st o.on
+  neg_new None f p o = word_new _ f (anyreg p).st (any_on p o)
 
   pub len_new : (f : ℕ) (p : Par4) → New4 n p → New n (len_join f p)
   unfolding len_join

@@ -1,7 +1,8 @@
 -- Operators, calls and nodes keep the constants in order, by induction on the trees; so the labelled code of all formulas has every constant listed, RK constants at most at 255, none twice.
 -- What rests on something that a must-fail edit breaks stands in proofs/Listing.antt.
+use Rattle.folding.specs.Numeral.{Fold}
 use Prim.Native.Nat.{ℕ, suc, ◌+◌, ◌≤◌}
-use Rattle.std.specs.Prelude.{Bool, true, false, not, ◌≡◌, refl, List, length}
+use Rattle.std.specs.Prelude.{Bool, true, false, not, ◌≡◌, refl, List, length, Some, None}
 use Rattle.std.proofs.Math.Path.{ap, sym}
 use Rattle.std.proofs.Common.{◌∙◌, subst, zero-add}
 use Rattle.std.proofs.Math.Option.{Option, some, none}
@@ -9,8 +10,6 @@ use native.Mathlib.Omega.{arith as nat}
 use Rattle.instructions.specs.Limits.{max_index_rk}
 use Rattle.folding.specs.declared.Arith.{Arith}
 use Rattle.folding.specs.declared.Arith.TheVariants as arith
-use Rattle.folding.specs.declared.Fold.{Fold}
-use Rattle.folding.specs.declared.Fold.TheVariants.{Folded, Kept}
 use Rattle.constants.specs.Entry.{Constant, number as knumber, text as ktext}
 use Rattle.cursor.specs.Fields.{bytes_of}
 use Rattle.cursor.specs.declared.Text.{Text}
@@ -163,8 +162,8 @@ word_makes k f s u a o = fresh_makes (kd k) f s (flush u) (then_to s u (flush u)
 
 pub ari_makes : (z : Fold) (o : Arith) (f : ℕ) (n : Option ℕ) (x : RkS) (s : St) (p : Par4) → OkLeft n p.st.tab x.rkv → Makes4 s p → Makes s (ari_join z o f n x p)
 unfolding ari_join
-ari_makes (Folded z) o f n x s p l m = fresh_makes _ f s p.st m.way tt
-ari_makes Kept o f n x s p l m = let r = right_first_lem n x p l m.kind_ok in word_makes _ f s (right_first n x p).st (then_to s p.st _ m.way r.way) (r.lft_ok, r.rgt_ok)
+ari_makes (Some z) o f n x s p l m = fresh_makes _ f s p.st m.way tt
+ari_makes None o f n x s p l m = let r = right_first_lem n x p l m.kind_ok in word_makes _ f s (right_first n x p).st (then_to s p.st _ m.way r.way) (r.lft_ok, r.rgt_ok)
 
 pub cmp_makes : (o : StepKind) (c w : Bool) (f : ℕ) (n : Option ℕ) (x : RkS) (s : St) (p : Par4) → OkLeft n p.st.tab x.rkv → ((k : ℕ) → n ≡ some k → x.rkv ≡ con (number k)) → Makes4 s p → Makes s (cmp_join o c w f n x p)
 unfolding cmp_join
@@ -176,8 +175,8 @@ any_word x f s p m o = word_makes (kx x) f s (anyreg p).st (then_to s p.st _ m.w
 
 neg_makes : (z : Fold) (f : ℕ) (s : St) (p : Par4) → Makes4 s p → Makes s (neg_join z f p)
 unfolding neg_join
-neg_makes (Folded z) f s p m = fresh_makes _ f s p.st m.way tt
-neg_makes Kept f s p m = any_word (neg (anyreg p).rgn) f s p m tt
+neg_makes (Some z) f s p m = fresh_makes _ f s p.st m.way tt
+neg_makes None f s p m = any_word (neg (anyreg p).rgn) f s p m tt
 
 len_makes : (f : ℕ) (s : St) (p : Par4) → Makes4 s p → Makes s (len_join f p)
 unfolding len_join

@@ -1,15 +1,14 @@
 -- Where a list of jumps is patched to here, the last word is no `LoadNil`: so the mark that is put there changes no word. For only a constant leaves the code as it was, and then its lists are new and empty;
 -- all else ends in a jump or in a mark.
 -- What rests on something that a must-fail edit breaks stands in proofs/Marks.antt.
-use Rattle.std.specs.Prelude.{ℕ, suc, ◌≤◌, Bool, not, ◌||◌, ◌&&◌, refl, List, [], ◌∷◌}
+use Rattle.folding.specs.Numeral.{Fold}
+use Rattle.std.specs.Prelude.{ℕ, suc, ◌≤◌, Bool, not, ◌||◌, ◌&&◌, refl, List, [], ◌∷◌, Some, None}
 use Rattle.std.proofs.Math.Bool.{true, false}
 use Rattle.std.proofs.Math.Path.{◌≡◌, subst}
 use Rattle.std.proofs.Common.{ap, sym, ◌∙◌, arith as nat}
 use Rattle.std.proofs.Math.Option.{Option, some, none}
 use Rattle.folding.specs.declared.Arith.{Arith}
 use Rattle.folding.specs.declared.Arith.TheVariants as arith
-use Rattle.folding.specs.declared.Fold.{Fold}
-use Rattle.folding.specs.declared.Fold.TheVariants.{Folded, Kept}
 use Rattle.constants.specs.Entry.{Constant, nil as knil, truth as ktruth, number as knumber, text as ktext}
 use Rattle.cursor.specs.Fields.{bytes_of}
 use Rattle.cursor.specs.declared.Text.{Text}
@@ -231,8 +230,8 @@ neg_quiet none f b p q v e = x_never _ v e
 neg_quiet (some m) f b p q v e = go (folds arith.Unm (some m) (some m)) e
   where
     go : (z : Fold) → (neg_join z f p).de.kind ≡ kd (kc v) → Quiet b (neg_join z f p).st.code
-    go Kept e = x_never _ v e
-    go (Folded z) e = q m refl
+    go None e = x_never _ v e
+    go (Some z) e = q m refl
 
 pub ari_quiet : (o : Arith) (n m : Option ℕ) (f : ℕ) (x : RkS) (b : Code) (p : Par4) → ((v u : ℕ) → n ≡ some v → m ≡ some u → Quiet b p.st.code) → Con b (ari_join (folds o n m) o f n x p)
 unfolding ari_join fresh
@@ -242,8 +241,8 @@ ari_quiet o (some w) none f x b p q v e = x_never _ v e
 ari_quiet o (some w) (some u) f x b p q v e = go (folds o (some w) (some u)) e
   where
     go : (z : Fold) → (ari_join z o f (some w) x p).de.kind ≡ kd (kc v) → Quiet b (ari_join z o f (some w) x p).st.code
-    go Kept e = x_never _ v e
-    go (Folded z) e = q w u refl refl
+    go None e = x_never _ v e
+    go (Some z) e = q w u refl refl
 
 pub cmp_never : (w : Bool) (k : StepKind) (c : Bool) (f : ℕ) (n : Option ℕ) (x : RkS) (b : Code) (p : Par4) → Con b (cmp_join k c w f n x p)
 unfolding cmp_join fresh

@@ -1,11 +1,10 @@
 -- Labelled lowering, operators (model's Operators): the right operand is lowered by a function, between what is done with the left one and what comes of both. The fifteen binary operators
 -- and the index are of five forms. Assumes nothing.
-use Rattle.std.specs.Prelude.{ℕ, suc, Bool, true, false}
+use Rattle.folding.specs.Numeral.{Fold}
+use Rattle.std.specs.Prelude.{ℕ, suc, Bool, true, false, Some, None}
 use Rattle.std.proofs.Math.Option.{Option, some, none}
 use Rattle.folding.specs.declared.Arith.{Arith}
 use Rattle.folding.specs.declared.Arith.TheVariants as arith
-use Rattle.folding.specs.declared.Fold.{Fold}
-use Rattle.folding.specs.declared.Fold.TheVariants.{Folded, Kept}
 use Rattle.constants.specs.Entry.{Constant, nil, truth, number, text}
 use Rattle.ast.specs.declared.BinOp.TheVariants as bin
 use Rattle.ast.specs.declared.Two.{Two}
@@ -69,8 +68,8 @@ left_first (some n) x p = left_if (is_near (number n) p.st.tab) n x p
 -- ---- arithmetic, comparisons
 
 unfoldable pub ari_join : Fold → Arith → ℕ → Option ℕ → RkS → Par4 → Pair
-ari_join (Folded z) o f n x p = fresh (kd (kc (number z.bits))) f p.st
-ari_join Kept o f n x p = fresh (kd (kx (ari o (right_first n x p).lft (right_first n x p).rgt))) f (flush (right_first n x p).st)
+ari_join (Some z) o f n x p = fresh (kd (kc (number z.bits))) f p.st
+ari_join None o f n x p = fresh (kd (kx (ari o (right_first n x p).lft (right_first n x p).rgt))) f (flush (right_first n x p).st)
 
 -- a > b and a >= b: the operands change places in the word
 abbrev pub kcmp : Bool → StepKind → Bool → Rk → Rk → K4
@@ -82,8 +81,8 @@ cmp_join o c swapped f n x p = fresh (kd (kcmp swapped o c (left_first n x p).lf
 
 -- negation, of a numeral folded; length
 unfoldable pub neg_join : Fold → ℕ → Par4 → Pair
-neg_join (Folded z) f p = fresh (kd (kc (number z.bits))) f p.st
-neg_join Kept f p = fresh (kd (kx (neg (anyreg p).rgn))) f (flush (anyreg p).st)
+neg_join (Some z) f p = fresh (kd (kc (number z.bits))) f p.st
+neg_join None f p = fresh (kd (kx (neg (anyreg p).rgn))) f (flush (anyreg p).st)
 
 unfoldable pub len_join : ℕ → Par4 → Pair
 len_join f p = fresh (kd (kx (len (anyreg p).rgn))) f (flush (anyreg p).st)

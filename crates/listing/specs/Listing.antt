@@ -4,8 +4,8 @@ use Prim.Native.Char.{code}
 use Prim.Native.String.{String}
 use Prim.Native.String.{[] as no_more, ◌∷◌ as ◌before◌}
 use Rattle.refusals.specs.Number.{number_of}
-use Rattle.model.specs.declared.Lowered.{Lowered}
-use Rattle.model.specs.declared.Lowered.TheVariants as answer
+use Rattle.model.specs.Lowered.{Lowered}
+use Rattle.std.specs.Prelude as answer
 
 -- a text's characters as bytes; all here are ASCII
 abbrev pub ascii : String → List ℕ
@@ -65,8 +65,8 @@ refusal_line n = ascii "refused " ++ (number n ++ ascii "\n")
 
 -- the list of a lowering's answer, from the code, lines, kinds and values that it left
 abbrev pub listing : Lowered → List ℕ → List ℕ → List ℕ → List ℕ → List ℕ
-listing (answer.Refused k) code lines kinds values = refusal_line (number_of k)
-listing (answer.Done k) code lines kinds values =
+listing (answer.Err k) code lines kinds values = refusal_line (number_of k)
+listing (answer.Ok k) code lines kinds values =
     count_line k.words k.constants k.text
     ++ (word_lines 0 (take k.words code) (take k.words lines)
     ++ constant_lines 0 (take k.constants kinds) (take k.constants values))

@@ -1,244 +1,193 @@
-// The weave list (document 01, "The weave list, and cases"), written into a lent buffer.
+// The weave list (document 01, "The weave list, and cases"), written into a lent buffer. What writes answers the place behind what it wrote, or `None`
+// once a byte did not fit.
 #![tactic(auto)]
 
-ghost use Rattle.std.specs.Prelude.{◌≡◌, true, ◌+◌, ◌%◌, length, take};
-ghost use Rattle.listing.specs.Listing.{decimal as decimal_of, hex as hex_of, glyph, word_line, constant_line, word_lines, constant_lines, count_line, refusal_line, listing as listing_of};
+ghost use Rattle.std.specs.Prelude.{◌≡◌, ℕ, ◌+◌, ◌%◌, length, map, take};
+ghost use Rattle.listing.specs.Listing.{decimal as decimal_of, hex as hex_of, glyph, count_line, refusal_line, listing as listing_of};
 ghost use Rattle.listing.specs.Page.{page, put as put_of, puts, sheet, written};
+ghost use Rattle.listing.specs.Laws.{Gives, row as row_of, rows as rows_of};
 
-use buffers::clear_bytes;
-use model::Lowered;
-
-// How far a buffer is written, and whether all has fitted.
-#[derive(Clone, Copy)]
-pub struct Pen {
-    pub at: usize,
-    pub room: bool,
-}
-
-// How many bytes were written; or that the buffer is too short, and then holds only zeros.
-#[derive(Clone, Copy)]
-pub enum Listed {
-    Written(usize),
-    Short,
-}
+use buffers::clear;
+use model::Counts;
+use refusals::Refusal;
 
 // ---- bytes
 
-fn put(out: &mut [u8], pen: Pen, b: u8) -> Pen
-    ensures { put_of b out.old pen ≡ page result out.new }
+#[tactic(auto, using(crate::specs::Laws::put_here, crate::specs::Laws::put_over))]
+fn put(out: &mut [u8], at: usize, b: u8) -> Option<usize>
+    ensures { put_of b out.old (Some at) ≡ page result out.new }
 {
-    if pen.room {
-        let at = pen.at;
-        if at < out.len() {
-            out[at] = b;
-            return Pen {
-                at: at + 1,
-                room: true,
-            };
-        }
+    if at < out.len() {
+        out[at] = b;
+        return Some(at + 1);
     }
-    Pen {
-        at: pen.at,
-        room: false,
-    }
+    None
 }
 
-fn text(out: &mut [u8], pen: Pen, s: &[u8]) -> Pen
-    ensures { puts s.now out.old pen ≡ page result out.new }
+#[tactic(auto, using(crate::specs::Laws::text_turn, crate::specs::Laws::text_all))]
+fn text(out: &mut [u8], mut at: usize, s: &[u8]) -> Option<usize>
+    ensures { puts s.now out.old (Some at) ≡ page result out.new }
 {
-    let mut p = pen;
-    let mut i = 0;
-    while i < s.len() {
-        p = put(out, p, s[i]);
-        i += 1;
+    for &b in s {
+        at = put(out, at, b)?;
     }
-    p
+    Some(at)
 }
 
-// ---- numbers
+// ---- numbers: by hand. A line by `writeln!(.., "{i} {n} {bits:08x}")` was tried, and its contract didn't close: of a line that doesn't fit std's `fmt::Write`
+// says nothing.
 
 // The digit of n's last place.
 fn decimal_digit(n: u64) -> u8
     ensures { 48 + n % 10 ≡ result }
 {
-    48 + (n % 10) as u8
+    b'0' + (n % 10) as u8
 }
 
 fn hex_digit(n: u64) -> u8
     ensures { glyph (n % 16) ≡ result }
 {
-    let d = n % 16;
-    if d < 10 { 48 + d as u8 } else { 87 + d as u8 }
+    let d = (n % 16) as u8;
+    if d < 10 { b'0' + d } else { b'a' + (d - 10) }
 }
 
-fn decimal(out: &mut [u8], pen: Pen, n: u64, most: usize) -> Pen
-    ensures { puts (decimal_of most n) out.old pen ≡ page result out.new }
+#[tactic(auto, using(crate::specs::Laws::decimal_none, crate::specs::Laws::decimal_small, crate::specs::Laws::decimal_large))]
+fn decimal(out: &mut [u8], at: usize, n: u64, most: usize) -> Option<usize>
+    ensures { puts (decimal_of most n) out.old (Some at) ≡ page result out.new }
 {
     if most == 0 {
-        return pen;
+        return Some(at);
     }
     if n < 10 {
-        return put(out, pen, decimal_digit(n));
+        return put(out, at, decimal_digit(n));
     }
-    let p = decimal(out, pen, n / 10, most - 1);
-    put(out, p, decimal_digit(n))
+    let at = decimal(out, at, n / 10, most - 1)?;
+    put(out, at, decimal_digit(n))
 }
 
-fn number(out: &mut [u8], pen: Pen, n: u64) -> Pen
-    ensures { puts (decimal_of 20 n) out.old pen ≡ page result out.new }
+fn number(out: &mut [u8], at: usize, n: u64) -> Option<usize>
+    ensures { puts (decimal_of 20 n) out.old (Some at) ≡ page result out.new }
 {
-    decimal(out, pen, n, 20)
+    decimal(out, at, n, 20)
 }
 
-fn hex(out: &mut [u8], pen: Pen, n: u64, digits: usize) -> Pen
-    ensures { puts (hex_of digits n) out.old pen ≡ page result out.new }
+#[tactic(auto, using(crate::specs::Laws::hex_none, crate::specs::Laws::hex_more))]
+fn hex(out: &mut [u8], at: usize, n: u64, digits: usize) -> Option<usize>
+    ensures { puts (hex_of digits n) out.old (Some at) ≡ page result out.new }
 {
     if digits == 0 {
-        return pen;
+        return Some(at);
     }
-    let p = hex(out, pen, n / 16, digits - 1);
-    put(out, p, hex_digit(n))
+    let at = hex(out, at, n / 16, digits - 1)?;
+    put(out, at, hex_digit(n))
 }
 
 // ---- lines
 
-fn word_line(out: &mut [u8], pen: Pen, i: u64, line: u64, word: u64) -> Pen
-    ensures { puts (word_line i line word) out.old pen ≡ page result out.new }
+fn count_line(out: &mut [u8], at: usize, words: u64, constants: u64, bytes: u64) -> Option<usize>
+    ensures { puts (count_line words constants bytes) out.old (Some at) ≡ page result out.new }
 {
-    let p = number(out, pen, i);
-    let p = put(out, p, b' ');
-    let p = number(out, p, line);
-    let p = put(out, p, b' ');
-    let p = hex(out, p, word, 8);
-    put(out, p, b'\n')
+    let at = text(out, at, b"words ")?;
+    let at = number(out, at, words)?;
+    let at = text(out, at, b" constants ")?;
+    let at = number(out, at, constants)?;
+    let at = text(out, at, b" text ")?;
+    let at = number(out, at, bytes)?;
+    put(out, at, b'\n')
 }
 
-fn constant_line(out: &mut [u8], pen: Pen, i: u64, kind: u64, value: u64) -> Pen
-    ensures { puts (constant_line i kind value) out.old pen ≡ page result out.new }
+fn refusal_line(out: &mut [u8], at: usize, refusal: u64) -> Option<usize>
+    ensures { puts (refusal_line refusal) out.old (Some at) ≡ page result out.new }
 {
-    let p = put(out, pen, b'c');
-    let p = number(out, p, i);
-    let p = put(out, p, b' ');
-    let p = number(out, p, kind);
-    let p = put(out, p, b' ');
-    let p = hex(out, p, value, 16);
-    put(out, p, b'\n')
+    let at = text(out, at, b"refused ")?;
+    let at = number(out, at, refusal)?;
+    put(out, at, b'\n')
 }
 
-fn count_line(out: &mut [u8], pen: Pen, words: u64, constants: u64, bytes: u64) -> Pen
-    ensures { puts (count_line words constants bytes) out.old pen ≡ page result out.new }
+// A label and the index, a number, and bits in so many digits.
+fn row(
+    out: &mut [u8],
+    at: usize,
+    label: &[u8],
+    digits: usize,
+    i: u64,
+    n: u64,
+    bits: u64,
+) -> Option<usize>
+    ensures { puts (row_of label.now digits i n bits) out.old (Some at) ≡ page result out.new }
 {
-    let p = text(out, pen, b"words ");
-    let p = number(out, p, words);
-    let p = text(out, p, b" constants ");
-    let p = number(out, p, constants);
-    let p = text(out, p, b" text ");
-    let p = number(out, p, bytes);
-    put(out, p, b'\n')
+    let at = text(out, at, label)?;
+    let at = number(out, at, i)?;
+    let at = put(out, at, b' ')?;
+    let at = number(out, at, n)?;
+    let at = put(out, at, b' ')?;
+    let at = hex(out, at, bits, digits)?;
+    put(out, at, b'\n')
 }
 
-fn refusal_line(out: &mut [u8], pen: Pen, refusal: u64) -> Pen
-    ensures { puts (refusal_line refusal) out.old pen ≡ page result out.new }
+// A row for each of the first `most`, as far as there are numbers and bits.
+fn rows<N: Into<u64> + Copy, B: Into<u64> + Copy>(
+    out: &mut [u8],
+    mut at: usize,
+    label: &[u8],
+    digits: usize,
+    numbers: &[N],
+    bits: &[B],
+    most: usize,
+) -> Option<usize>
+    ensures { (f : N → ℕ) (h : B → ℕ) → Gives N.converts f → Gives B.converts h → puts (rows_of label.now digits 0 (take most (map f numbers.now)) (take most (map h bits.now))) out.old (Some at) ≡ page result out.new }
 {
-    let p = text(out, pen, b"refused ");
-    let p = number(out, p, refusal);
-    put(out, p, b'\n')
-}
-
-fn wide(n: u32) -> u64
-    ensures { n ≡ result }
-{
-    n as u64
-}
-
-fn wide_byte(n: u8) -> u64
-    ensures { n ≡ result }
-{
-    n as u64
-}
-
-// The first n words, as far as there are words and lines.
-fn words(out: &mut [u8], pen: Pen, code: &[u32], lines: &[u32], n: usize) -> Pen
-    ensures { puts (word_lines 0 (take n code.now) (take n lines.now)) out.old pen ≡ page result out.new }
-{
-    let mut p = pen;
-    let mut i = 0;
-    while i < n {
-        if code.len() <= i {
-            return p;
-        }
-        if lines.len() <= i {
-            return p;
-        }
-        p = word_line(out, p, i as u64, wide(lines[i]), wide(code[i]));
-        i += 1;
+    for i in 0..most.min(numbers.len()).min(bits.len()) {
+        at = row(
+            out,
+            at,
+            label,
+            digits,
+            i as u64,
+            numbers[i].into(),
+            bits[i].into(),
+        )?;
     }
-    p
-}
-
-fn constants(out: &mut [u8], pen: Pen, kinds: &[u8], values: &[u64], n: usize) -> Pen
-    ensures { puts (constant_lines 0 (take n kinds.now) (take n values.now)) out.old pen ≡ page result out.new }
-{
-    let mut p = pen;
-    let mut i = 0;
-    while i < n {
-        if kinds.len() <= i {
-            return p;
-        }
-        if values.len() <= i {
-            return p;
-        }
-        p = constant_line(out, p, i as u64, wide_byte(kinds[i]), values[i]);
-        i += 1;
-    }
-    p
+    Some(at)
 }
 
 // ---- the list
 
 fn lines_of(
-    answer: Lowered,
+    answer: Result<Counts, Refusal>,
     code: &[u32],
     lines: &[u32],
     kinds: &[u8],
     values: &[u64],
     out: &mut [u8],
-) -> Pen
-    ensures { puts (listing_of answer code.now lines.now kinds.now values.now) out.old (record { at = 0; room = true }) ≡ page result out.new }
+) -> Option<usize>
+    ensures { puts (listing_of answer code.now lines.now kinds.now values.now) out.old (Some 0) ≡ page result out.new }
 {
-    let start = Pen { at: 0, room: true };
     match answer {
-        Lowered::Done(k) => {
-            let p = count_line(
-                out,
-                start,
-                k.words as u64,
-                k.constants as u64,
-                k.text as u64,
-            );
-            let p = words(out, p, code, lines, k.words);
-            constants(out, p, kinds, values, k.constants)
+        Ok(k) => {
+            let at = count_line(out, 0, k.words as u64, k.constants as u64, k.text as u64)?;
+            let at = rows(out, at, b"", 8, lines, code, k.words)?;
+            rows(out, at, b"c", 16, kinds, values, k.constants)
         }
-        Lowered::Refused(k) => refusal_line(out, start, wide(k.number())),
+        Err(k) => refusal_line(out, 0, u64::from(u32::from(k))),
     }
 }
 
-// The list of an answer and the buffers that a lowering left.
+// The list of an answer and the buffers that a lowering left: how many bytes were written, or `None` where the buffer is too short and then holds only zeros.
 pub fn listing(
-    answer: Lowered,
+    answer: Result<Counts, Refusal>,
     code: &[u32],
     lines: &[u32],
     kinds: &[u8],
     values: &[u64],
     out: &mut [u8],
-) -> Listed
+) -> Option<usize>
     ensures { written (length out.old) (listing_of answer code.now lines.now kinds.now values.now) ≡ sheet result out.new }
 {
-    clear_bytes(out);
-    let pen = lines_of(answer, code, lines, kinds, values, out);
-    if pen.room {
-        return Listed::Written(pen.at);
+    clear(out);
+    let end = lines_of(answer, code, lines, kinds, values, out);
+    if end.is_none() {
+        clear(out);
     }
-    clear_bytes(out);
-    Listed::Short
+    end
 }

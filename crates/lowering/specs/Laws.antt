@@ -1,14 +1,13 @@
 -- The entry, step by step: what the definition comes to once the header and the lowering have answered, as the code reads it. Assumes nothing.
-use Rattle.std.specs.Prelude.{ℕ, List, ◌≡◌, refl, length}
+use Rattle.std.specs.Prelude.{ℕ, List, ◌≡◌, refl, length, Ok, Err}
 use Rattle.std.proofs.Common.{sym, ap, ◌∙◌}
 use Rattle.std.proofs.lemmas.List.{length-replicate}
 use Rattle.refusals.specs.declared.Refusal.{Refusal}
 use Rattle.buffers.specs.Pad.{zeros, pad}
 use Rattle.chunk.specs.Headers.{header_at}
 use Rattle.chunk.specs.declared.header.Header.{Header}
-use Rattle.chunk.specs.declared.header.HeaderRead.TheVariants as header
 use Rattle.model.specs.declared.State.{State}
-use Rattle.model.specs.declared.Lowered.TheVariants as answer
+use Rattle.std.specs.Prelude as answer
 use Rattle.model.specs.Steps.{Buffers, bufs, Result, done, refused}
 use Rattle.model.specs.Lengths.{SameLengths}
 use Rattle.model.specs.Claims.{sizes}
@@ -16,15 +15,15 @@ use Rattle.model.specs.Lowering.{cleared, start, lower_chunk, out, ended, with_h
 use Rattle.lowering.specs.Parts.{from_header}
 
 module _ (chunk places : List ℕ) (n : ℕ) (m : Buffers) where
-  pub header_refused : {k : Refusal} {o : Buffers} → header_at chunk ≡ header.Refused k → cleared (sizes m n) ≡ o → from_header (sizes m n) chunk places m ≡ out (answer.Refused k) o (zeros n)
-  header_refused {k} {o} q z = ap (λ r. with_header (sizes m n) r (λ h. ended (sizes m n) places (lower_chunk chunk h (start h.next h.locals) m))) q ∙ ap (λ y. out (answer.Refused k) y (zeros n)) z
+  pub header_refused : {k : Refusal} {o : Buffers} → header_at chunk ≡ Err k → cleared (sizes m n) ≡ o → from_header (sizes m n) chunk places m ≡ out (answer.Err k) o (zeros n)
+  header_refused {k} {o} q z = ap (λ r. with_header (sizes m n) r (λ h. ended (sizes m n) places (lower_chunk chunk h (start h.next h.locals) m))) q ∙ ap (λ y. out (answer.Err k) y (zeros n)) z
 
-  module _ {h : Header} (q : header_at chunk ≡ header.Header h) where
-    pub lower_refused : {k : Refusal} {o p : Buffers} → lower_chunk chunk h (start h.next h.locals) m ≡ refused k p → cleared (sizes m n) ≡ o → from_header (sizes m n) chunk places m ≡ out (answer.Refused k) o (zeros n)
-    lower_refused {k} y z = ap (λ r. with_header (sizes m n) r (λ h. ended (sizes m n) places (lower_chunk chunk h (start h.next h.locals) m))) q ∙ ap (ended (sizes m n) places) y ∙ ap (λ y. out (answer.Refused k) y (zeros n)) z
+  module _ {h : Header} (q : header_at chunk ≡ Ok h) where
+    pub lower_refused : {k : Refusal} {o p : Buffers} → lower_chunk chunk h (start h.next h.locals) m ≡ refused k p → cleared (sizes m n) ≡ o → from_header (sizes m n) chunk places m ≡ out (answer.Err k) o (zeros n)
+    lower_refused {k} y z = ap (λ r. with_header (sizes m n) r (λ h. ended (sizes m n) places (lower_chunk chunk h (start h.next h.locals) m))) q ∙ ap (ended (sizes m n) places) y ∙ ap (λ y. out (answer.Err k) y (zeros n)) z
 
     pub lower_done : {s : State} {p : Buffers} → lower_chunk chunk h (start h.next h.locals) m ≡ done tt s p →
-        from_header (sizes m n) chunk places m ≡ out (answer.Done (counts_of s)) p (pad n places)
+        from_header (sizes m n) chunk places m ≡ out (answer.Ok (counts_of s)) p (pad n places)
     lower_done y = ap (λ r. with_header (sizes m n) r (λ h. ended (sizes m n) places (lower_chunk chunk h (start h.next h.locals) m))) q ∙ ap (ended (sizes m n) places) y
 
 -- five buffers for five

@@ -2,8 +2,8 @@
 use Rattle.std.specs.Prelude.{ℕ, List, ◌≡◌}
 use Rattle.buffers.specs.Pad.{zeros, pad}
 use Rattle.chunk.specs.Headers.{header_at}
-use Rattle.model.specs.declared.Lowered.{Lowered}
-use Rattle.model.specs.declared.Lowered.TheVariants as answer
+use Rattle.model.specs.Lowered.{Lowered}
+use Rattle.std.specs.Prelude as answer
 use Rattle.model.specs.Steps.{Buffers}
 use Rattle.model.specs.Claims.{sizes}
 use Rattle.buffers.specs.Lent.{Lent}
@@ -16,8 +16,8 @@ from_header z chunk places m = with_header z (header_at chunk) λ h. ended z pla
 
 -- what a scratch of n numbers then holds
 abbrev pub scratch_of : Lowered → ℕ → List ℕ → List ℕ
-scratch_of (answer.Done k) n places = pad n places
-scratch_of (answer.Refused k) n places = zeros n
+scratch_of (answer.Ok k) n places = pad n places
+scratch_of (answer.Err k) n places = zeros n
 
 -- the contract of `lower_cleared`, whatever the scratch
 abbrev pub LowersCleared : List ℕ → Lowered → Lent → Lent → Lent → Lent → Lent → Type 0

@@ -9,29 +9,28 @@ ghost use Rattle.model.specs.Claims.{sizes};
 ghost use Rattle.model.specs.Lowering.{cleared, start};
 ghost use Rattle.lowering.specs.Parts.{LowersCleared};
 
-use buffers::{clear_bytes, clear_values, clear_words};
-use chunk::form::{Form, check_form};
-use chunk::header::{Header, HeaderRead, read_header};
+use chunk::form::check_form;
+use chunk::header::{Header, Source, read_header};
 use constants::Table;
 use formulas::lower_chunk;
-use model::{Counts, Lowered, State, Stepped};
+use model::{Counts, FuncState, State};
 use refusals::Refusal;
 
 // Zeros only; a slice keeps its length.
 fn clear(code: &mut [u32], lines: &mut [u32], kinds: &mut [u8], values: &mut [u64], pool: &mut [u8])
     ensures { cleared (sizes (after code lines kinds values pool) 0) ≡ after code lines kinds values pool }
 {
-    clear_words(code);
-    clear_words(lines);
-    clear_bytes(kinds);
-    clear_values(values);
-    clear_bytes(pool);
+    buffers::clear(code);
+    buffers::clear(lines);
+    buffers::clear(kinds);
+    buffers::clear(values);
+    buffers::clear(pool);
 }
 
 fn clear_scratch(scratch: &mut [u32])
     ensures { zeros (length (new scratch)) ≡ new scratch }
 {
-    clear_words(scratch);
+    buffers::clear(scratch);
 }
 
 // `Proto::new`, `FuncState::new`, the line of `Compiler::new`, and the locals as `activate_locals` counts them.
@@ -59,29 +58,41 @@ fn lower_cleared(
     kinds: &mut [u8],
     values: &mut [u64],
     pool: &mut [u8],
-) -> Lowered
+) -> Result<Counts, Refusal>
     ensures { LowersCleared (bytes chunk) result code lines kinds values pool }
 {
-    let header = read_header(chunk);
-    match header {
-        HeaderRead::Header(h) => {
-            let lowered = lower_chunk(chunk, h, code, lines, kinds, values, pool, start_at(h));
-            match lowered {
-                Stepped::Done(s) => Lowered::Done(Counts {
-                    words: s.pc,
-                    constants: s.table.count,
-                    text: s.table.used,
-                    frame: s.frame,
-                }),
-                Stepped::Refused(k) => {
-                    clear(code, lines, kinds, values, pool);
-                    Lowered::Refused(k)
-                }
-            }
-        }
-        HeaderRead::Refused(k) => {
+    let header = match read_header(chunk) {
+        Ok(h) => h,
+        Err(k) => {
             clear(code, lines, kinds, values, pool);
-            Lowered::Refused(k)
+            return Err(k);
+        }
+    };
+    let mut fs = FuncState {
+        code: &mut *code,
+        lines: &mut *lines,
+        kinds: &mut *kinds,
+        values: &mut *values,
+        pool: &mut *pool,
+        state: start_at(header),
+    };
+    let source = Source {
+        bytes: chunk,
+        header,
+    };
+    match lower_chunk(&mut fs, &source) {
+        Ok(()) => {
+            let s = fs.state;
+            Ok(Counts {
+                words: s.pc,
+                constants: s.table.count,
+                text: s.table.used,
+                frame: s.frame,
+            })
+        }
+        Err(k) => {
+            clear(code, lines, kinds, values, pool);
+            Err(k)
         }
     }
 }
@@ -96,26 +107,20 @@ pub fn lower(
     values: &mut [u64],
     pool: &mut [u8],
     scratch: &mut [u32],
-) -> Lowered
+) -> Result<Counts, Refusal>
     ensures { LowersLent (bytes chunk) result code lines kinds values pool scratch }
 {
     clear(code, lines, kinds, values, pool);
-    let form = check_form(chunk, scratch);
-    match form {
-        Form::Formed(n) => {
-            if scratch.len() < n {
-                clear_scratch(scratch);
-                return Lowered::Refused(Refusal::Scratch);
-            }
-            let answer = lower_cleared(chunk, code, lines, kinds, values, pool);
-            match answer {
-                Lowered::Done(k) => Lowered::Done(k),
-                Lowered::Refused(k) => {
-                    clear_scratch(scratch);
-                    Lowered::Refused(k)
-                }
-            }
+    let n = check_form(chunk, scratch)?;
+    if scratch.len() < n {
+        clear_scratch(scratch);
+        return Err(Refusal::Scratch);
+    }
+    match lower_cleared(chunk, code, lines, kinds, values, pool) {
+        Ok(k) => Ok(k),
+        Err(k) => {
+            clear_scratch(scratch);
+            Err(k)
         }
-        Form::Refused(k) => Lowered::Refused(k),
     }
 }

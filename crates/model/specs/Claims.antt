@@ -11,8 +11,8 @@ use Rattle.constants.specs.Entry.{Constant, constant_at, Inside}
 use Rattle.chunk.specs.Ast.{Chunk, spans_of, places_of}
 use Rattle.chunk.specs.Form.{formed, unformed, form_of}
 use Rattle.model.specs.declared.Counts.{Counts}
-use Rattle.model.specs.declared.Lowered.{Lowered}
-use Rattle.model.specs.declared.Lowered.TheVariants as answer
+use Rattle.model.specs.Lowered.{Lowered}
+use Rattle.std.specs.Prelude as answer
 use Rattle.model.specs.Values.{Value, World}
 use Rattle.model.specs.Reading.{reading}
 use Rattle.model.specs.Running.{Program, returned, run}
@@ -59,8 +59,8 @@ pub data Due (z : Sizes) (chunk : List ℕ) (x : Refusal) : Type 0 where
 
 -- a refusal leaves only zeros, and comes from the stage that `Due` names; which of 10 to 13 it is, and where, the equation with `lowered` tells
 abbrev pub Padded : Sizes → List ℕ → Lowered → Buffers → List ℕ → Type 0
-Padded z chunk (answer.Done k) m scratch = Left z chunk k m scratch
-Padded z chunk (answer.Refused x) m scratch = (m ≡ cleared z) × ((scratch ≡ zeros z.scratch) × Due z chunk x)
+Padded z chunk (answer.Ok k) m scratch = Left z chunk k m scratch
+Padded z chunk (answer.Err x) m scratch = (m ≡ cleared z) × ((scratch ≡ zeros z.scratch) × Due z chunk x)
 
 -- ---- demand 3
 
@@ -74,8 +74,8 @@ RunsAsRead chunk c w locals varargs k m = (n : ℕ) × ((n ≤ k.words) × (run 
 
 -- where the answer is counts: the chunk has a form, and whatever the outside, the locals and the varargs, running the words is reading its formulas
 abbrev pub Faithful : List ℕ → Lowered → Buffers → Type 0
-Faithful chunk (answer.Done k) m = (c : Chunk) × ((form_of chunk ≡ formed c) × ((w : World) (locals varargs : List Value) → length locals ≡ length c.names → RunsAsRead chunk c w locals varargs k m))
-Faithful chunk (answer.Refused k) m = Unit {0}
+Faithful chunk (answer.Ok k) m = (c : Chunk) × ((form_of chunk ≡ formed c) × ((w : World) (locals varargs : List Value) → length locals ≡ length c.names → RunsAsRead chunk c w locals varargs k m))
+Faithful chunk (answer.Err k) m = Unit {0}
 
 -- ---- all that is promised of a lowering: the answer and every buffer are those of the definition, whole; and, of these, demands 1 and 3
 

@@ -1,15 +1,13 @@
 -- Emitting words, registers and constants: the lower part of codegen.rs. Assumes nothing.
-use Rattle.std.specs.Prelude.{ℕ, ◌+◌, ◌-◌, max, List, Bool, true, false, ◌&&◌, ◌||◌, length, set, negsuc, eqb, leb, ltb}
+use Rattle.std.specs.Prelude.{ℕ, ◌+◌, ◌-◌, max, List, Bool, true, false, ◌&&◌, ◌||◌, length, set, negsuc, eqb, leb, ltb, Ok, Err}
 use Rattle.refusals.specs.declared.Refusal.TheVariants.{Registers, Words}
 use Rattle.instructions.specs.Limits.{no_reg, bit_rk, max_stack, max_words}
 use Rattle.instructions.specs.Word.{a_of, b_of, set_b_of, abc_of, a_bx_of, a_sbx_of}
 use Rattle.opcodes.specs.declared.OpCode.{OpCode}
 use Rattle.opcodes.specs.declared.OpCode.TheVariants.{LoadBool, LoadNil, Jmp}
-use Rattle.constants.specs.Table.{added as added_to, Out}
+use Rattle.constants.specs.Table.{added as added_to, Out, Added}
 use Rattle.constants.specs.declared.Table.{Table}
 use Rattle.constants.specs.declared.Val.{Val}
-use Rattle.constants.specs.declared.Added.{Added}
-use Rattle.constants.specs.declared.Added.TheVariants as added
 use Rattle.model.specs.declared.State.{State}
 use Rattle.model.specs.Steps.{Buffers, Result, done, refused, Step, ◌>>=◌, ◌>>◌, return, refuse, get, change, code_now, change_words, skip}
 use Rattle.model.specs.Jumps.{word, is_op, concat_jumps, linked, remove_values, patch_list_aux}
@@ -179,8 +177,8 @@ free_reg r = do
 
 -- the table's answer: the state with the table as it then is, or the refusal
 abbrev pub keep : Added → Step ℕ
-keep (added.At i t) s m = done i (with_table t s) m
-keep (added.Refused k) s m = refused k m
+keep (Ok (i, t)) s m = done i (with_table t s) m
+keep (Err k) s m = refused k m
 
 -- the same in the buffers as they then are
 abbrev pub stored_in : State → Buffers → Out → Result ℕ

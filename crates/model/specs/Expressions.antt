@@ -1,5 +1,5 @@
 -- Expressions and argument lists, over the chunk's bytes: `compile_expr` and `compile_funcargs`. Nesting falls from node to sub-expression. Assumes nothing.
-use Rattle.std.specs.Prelude.{ℕ, zero, suc, ◌+◌, ◌-◌, List, [], ◌∷◌, Bool, true, false, ◌||◌, ltb}
+use Rattle.std.specs.Prelude.{ℕ, zero, suc, ◌+◌, ◌-◌, List, [], ◌∷◌, Bool, true, false, ◌||◌, ltb, Result, Ok, Err}
 use Rattle.std.proofs.Math.Option.{Option, some, none}
 use Rattle.instructions.specs.Limits.{no_reg}
 use Rattle.refusals.specs.declared.Refusal.TheVariants as refusal
@@ -21,8 +21,6 @@ use Rattle.ast.specs.declared.Many.TheVariants as many
 use Rattle.ast.specs.declared.Head.{Head}
 use Rattle.ast.specs.declared.Head.TheVariants as head
 use Rattle.ast.specs.declared.Node.{Node}
-use Rattle.nodes.specs.declared.node.NodeRead.{NodeRead}
-use Rattle.nodes.specs.declared.node.NodeRead.TheVariants as read
 use Rattle.chunk.specs.Headers.{names_at}
 use Rattle.chunk.specs.Form.{names_of}
 use Rattle.chunk.specs.declared.header.Header.{Header}
@@ -34,6 +32,7 @@ use Rattle.model.specs.Steps.{Step, ◌>>=◌, ◌>>◌, return, refuse, get, ch
 use Rattle.model.specs.Emission.{with_place, with_free, emit_at, emit_abc, reserve_regs, add_constant}
 use Rattle.model.specs.Discharge.{change_word, discharge_vars, free_expr, exp2nextreg, exp2anyreg, exp2rk, rk}
 use Rattle.model.specs.Operators.{before_right, after_right, code_unop}
+use Rattle.refusals.specs.declared.Refusal.{Refusal}
 
 -- ---- variables
 
@@ -197,9 +196,9 @@ module _ (chunk : List ℕ) (h : Header) where
     compile_funcargs f func s.line n
 
   -- a node that was read: its line is current from here on
-  abbrev pub compile_node : Step ExprContext → NodeRead → Step ExprContext
-  compile_node f (read.Refused k) = refuse k
-  compile_node f (read.Node n) = do
+  abbrev pub compile_node : Step ExprContext → Result Node Refusal → Step ExprContext
+  compile_node f (Err k) = refuse k
+  compile_node f (Ok n) = do
     change (with_place n.next n.line)
     compile_head f n.head
 

@@ -1,3 +1,7 @@
+pub mod Lowered
+pub mod Stepped
+pub mod Given
+pub mod Described
 pub mod Values
 pub mod Reading
 pub mod Running

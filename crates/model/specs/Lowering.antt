@@ -1,5 +1,5 @@
 -- The lowering of a whole chunk: what is left in every lent buffer, and the counts and the frame, or the refusal (document 01, "Lowering" and "Refused chunks"). Assumes nothing.
-use Rattle.std.specs.Prelude.{ℕ, zero, suc, ◌+◌, List, true, false, length, leb}
+use Rattle.std.specs.Prelude.{ℕ, zero, suc, ◌+◌, List, true, false, length, leb, Result as Read, Ok, Err}
 use Rattle.refusals.specs.declared.Refusal.{Refusal}
 use Rattle.refusals.specs.declared.Refusal.TheVariants as refusal
 use Rattle.buffers.specs.Pad.{zeros, pad}
@@ -8,13 +8,11 @@ use Rattle.chunk.specs.Ast.{spans_of, places_of}
 use Rattle.chunk.specs.Headers.{header_at}
 use Rattle.chunk.specs.Form.{formed, unformed, form_of, max_nesting}
 use Rattle.chunk.specs.declared.header.Header.{Header}
-use Rattle.chunk.specs.declared.header.HeaderRead.{HeaderRead}
-use Rattle.chunk.specs.declared.header.HeaderRead.TheVariants as header
 use Rattle.model.specs.declared.ExprContext.{ExprContext}
 use Rattle.model.specs.declared.State.{State}
 use Rattle.model.specs.declared.Counts.{Counts}
-use Rattle.model.specs.declared.Lowered.{Lowered}
-use Rattle.model.specs.declared.Lowered.TheVariants as answer
+use Rattle.model.specs.Lowered.{Lowered}
+use Rattle.std.specs.Prelude as answer
 use Rattle.model.specs.Steps.{Buffers, Result, done, refused, Step, ◌>>=◌, ◌>>◌, skip}
 use Rattle.model.specs.Emission.{emit_abc, reserve_regs}
 use Rattle.model.specs.Discharge.{exp2nextreg}
@@ -63,7 +61,7 @@ out r m scratch = record { answer = r; buffers = m; scratch = scratch }
 
 -- a refusal leaves only zeros
 abbrev pub refusal_of : Sizes → Refusal → Out
-refusal_of z k = out (answer.Refused k) (cleared z) (zeros z.scratch)
+refusal_of z k = out (answer.Err k) (cleared z) (zeros z.scratch)
 
 -- the counts and the frame of what was lowered
 abbrev pub counts_of : State → Counts
@@ -71,12 +69,12 @@ counts_of s = record { words = s.pc; constants = s.table.count; text = s.table.u
 
 -- code, constants and texts with their counts, and the places of the nodes in the scratch
 abbrev pub ended : Sizes → List ℕ → Result (Unit {0}) → Out
-ended z places (done _ s m) = out (answer.Done (counts_of s)) m (pad z.scratch places)
+ended z places (done _ s m) = out (answer.Ok (counts_of s)) m (pad z.scratch places)
 ended z places (refused k m) = refusal_of z k
 
-abbrev pub with_header : Sizes → HeaderRead → (Header → Out) → Out
-with_header z (header.Header h) f = f h
-with_header z (header.Refused k) f = refusal_of z k
+abbrev pub with_header : Sizes → Read Header Refusal → (Header → Out) → Out
+with_header z (Ok h) f = f h
+with_header z (Err k) f = refusal_of z k
 
 -- the lowering of a chunk that has the form, with these places: the scratch, which the Rust lacks (difference 5), is tested first
 unfoldable pub lower_formed : Sizes → List ℕ → List ℕ → Out

@@ -1,20 +1,17 @@
 -- Operators: infix, postfix and prefix, with folding, arithmetic, comparisons and concatenation. Assumes nothing.
-use Rattle.std.specs.Prelude.{ℕ, ◌-◌, [], Bool, true, false, ◌&&◌, ltb}
+use Rattle.folding.specs.Numeral.{Fold}
+use Rattle.std.specs.Prelude.{ℕ, ◌-◌, [], Bool, true, false, ◌&&◌, ltb, Some, None}
 use Rattle.instructions.specs.Limits.{max_index_rk}
 use Rattle.instructions.specs.Word.{set_b_of}
 use Rattle.opcodes.specs.declared.OpCode.{OpCode}
 use Rattle.opcodes.specs.declared.OpCode.TheVariants as op
 use Rattle.folding.specs.Folding.{fold_of}
 use Rattle.folding.specs.declared.Numeral.{Numeral}
-use Rattle.folding.specs.declared.Fold.{Fold}
-use Rattle.folding.specs.declared.Fold.TheVariants.{Folded, Kept}
 use Rattle.folding.specs.declared.Arith.{Arith}
 use Rattle.folding.specs.declared.Arith.TheVariants as arith
 use Rattle.constants.specs.Entry.{holds}
-use Rattle.constants.specs.Table.{find}
+use Rattle.constants.specs.Table.{find, Found}
 use Rattle.constants.specs.declared.Val.TheVariants as val
-use Rattle.constants.specs.declared.Found.{Found}
-use Rattle.constants.specs.declared.Found.TheVariants.{At, Nothing}
 use Rattle.ast.specs.declared.BinOp.{BinOp}
 use Rattle.ast.specs.declared.BinOp.TheVariants as bin
 use Rattle.ast.specs.declared.UnOp.{UnOp}
@@ -41,15 +38,15 @@ arith_op arith.Unm = op.Unm
 
 -- `const_fold`: of numerals without jumps
 abbrev pub const_fold : Arith → ExprContext → ExprContext → Fold
-const_fold o e₁ e₂ = elim (is_numeral e₁ && is_numeral e₂) [ true ↦ fold_of o e₁.nval e₂.nval | false ↦ Kept ]
+const_fold o e₁ e₂ = elim (is_numeral e₁ && is_numeral e₂) [ true ↦ fold_of o e₁.nval e₂.nval | false ↦ None ]
 
 -- the descriptor with another number
 abbrev pub with_number : Numeral → ExprContext → ExprContext
 with_number n e = record { kind = e.kind; info = e.info; aux = e.aux; nval = n.value; bits = n.bits; t = e.t; f = e.f }
 
 abbrev pub unless_folded : Fold → ExprContext → Step ExprContext → Step ExprContext
-unless_folded (Folded n) e x = return (with_number n e)
-unless_folded Kept e x = x
+unless_folded (Some n) e x = return (with_number n e)
+unless_folded None e x = x
 
 unfoldable pub free_in_turn : ExprContext → ExprContext → Step (Unit {0})
 free_in_turn a b = do
@@ -95,8 +92,8 @@ code_concat e₁ e₂ = do
 
 -- no RK operand can name an entry above 255, nor the next one of a table with 256
 abbrev pub is_far : Found → ℕ → Bool
-is_far (At k) count = ltb max_index_rk k
-is_far Nothing count = ltb max_index_rk count
+is_far (Some k) count = ltb max_index_rk k
+is_far None count = ltb max_index_rk count
 
 -- a numeral that is listed above 255, or unlisted with 256 entries or more (difference 2)
 unfoldable pub far_numeral : ExprContext → Step Bool

@@ -4,8 +4,8 @@ use Rattle.std.specs.Prelude.{ℕ, ◌+◌, ◌*◌, ◌-◌, ◌≡◌, refl, L
 use Rattle.folding.specs.declared.Arith.TheVariants as arith
 use Rattle.buffers.specs.Pad.{pad}
 use Rattle.chunk.specs.Form.{Formed, formed, unformed, form_of, exprs_at, rest, expr_at, ended}
-use Rattle.model.specs.declared.Lowered.{Lowered}
-use Rattle.model.specs.declared.Lowered.TheVariants as answer
+use Rattle.model.specs.Lowered.{Lowered}
+use Rattle.std.specs.Prelude as answer
 use Rattle.model.specs.Values.{Value, nil, truth, number, text, other, StepKind, global_read, index_read, call, equal, less, less_or_equal, length_of, concatenation, arithmetic, Outward, World, compute, negation}
 use Rattle.model.specs.Reading.{reading, local_named, read_leaf, read_one, read_binary, read_two, read_many, read_formulas, read_expr, read_args}
 use Rattle.model.specs.Running.{Program, returned, stuck_run, run, regs, puts, joined, execute, run_from}
@@ -633,8 +633,8 @@ data LowersTo : Type 0 where
   refuses : LowersTo
 
 abbrev lowers : Lowered → Buffers → LowersTo
-lowers (answer.Done k) m = lowers_to (program k m)
-lowers (answer.Refused x) m = refuses
+lowers (answer.Ok k) m = lowers_to (program k m)
+lowers (answer.Err x) m = refuses
 
 -- ---- stuck
 

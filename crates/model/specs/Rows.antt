@@ -25,13 +25,13 @@ use Rattle.model.specs.Operators.{free_in_turn, free_both, emit_arith, code_arit
 use Rattle.model.specs.Reading.{local_named, read_leaf, read_one, read_binary, read_two, read_many, read_formulas, read_expr, read_args}
 use Rattle.model.specs.Running.{regs, puts, joined, execute, run_from, Run, returned, stuck_run, run}
 use Rattle.model.specs.Steps.{and_then, Buffers}
-use Rattle.model.specs.Values.{compute, negation, number, text, Value, nil, truth, World}
+use Rattle.model.specs.Values.{compute, negation, Value, nil, truth, World}
 use Rattle.std.specs.Float.Ieee.{span, climb, size, odd, units, round, neg, sum, add, sub, mul, div, lt, eq, le, ne, of_int, of_fields, of_bits, nan_bits, to_bits, is_nan}
 use Rattle.model.specs.Lowering.{formulas, lower_chunk, lower_formed, lowered, Sizes, Out}
 use Rattle.refusals.specs.Number.{number_of}
 use Rattle.model.specs.Claims.{program}
-use Rattle.model.specs.declared.Lowered.{Lowered}
-use Rattle.model.specs.declared.Lowered.TheVariants as answer
+use Rattle.model.specs.Lowered.{Lowered}
+use Rattle.std.specs.Prelude as answer
 
 -- the buffers that `weavelist` lends
 abbrev pub weavelist : Sizes
@@ -43,8 +43,8 @@ pub data Summary : Type 0 where
   refusal : ℕ → Summary
 
 abbrev of_answer : Lowered → Buffers → Summary
-of_answer (answer.Done c) m = words (take c.words m.code) (take c.words m.lines) (take c.constants m.kinds) (take c.constants m.values) c.text c.frame
-of_answer (answer.Refused k) m = refusal (number_of k)
+of_answer (answer.Ok c) m = words (take c.words m.code) (take c.words m.lines) (take c.constants m.kinds) (take c.constants m.values) c.text c.frame
+of_answer (answer.Err k) m = refusal (number_of k)
 
 abbrev summary : Out → Summary
 summary o = of_answer o.answer o.buffers
@@ -115,8 +115,8 @@ values_of (returned vs h n) = some vs
 values_of stuck_run = none
 
 abbrev of_run : Lowered → Buffers → Option (List Value)
-of_run (answer.Done k) m = values_of (run nobody (program k m) [] [])
-of_run (answer.Refused x) m = none
+of_run (answer.Ok k) m = values_of (run nobody (program k m) [] [])
+of_run (answer.Err x) m = none
 
 -- asked only where a row says something of it
 abbrev if_said : Option (List Value) → Out → Option (List Value)

@@ -1,5 +1,5 @@
 -- Worked examples, computed: running the words that a chunk is lowered to gives what reading its formulas gives, for three outsides. Assumes nothing.
-use Rattle.std.specs.Prelude.{ℕ, zero, suc, ◌+◌, ◌*◌, ◌%◌, ◌≡◌, refl, List, [], ◌∷◌, ◌++◌, map, true, false, length, replicate, eqb, ltb}
+use Rattle.std.specs.Prelude.{ℕ, zero, suc, ◌+◌, ◌*◌, ◌%◌, ◌≡◌, refl, List, [], ◌∷◌, ◌++◌, map, true, false, length, replicate, eqb, ltb, Result as Read, Ok, Err}
 use Rattle.buffers.specs.Pad.{pad, zeros}
 use Rattle.instructions.specs.Field.{get_at, set_at}
 use Rattle.opcodes.specs.OpCodes.{op_code_of}
@@ -29,9 +29,9 @@ use Rattle.std.specs.Float.Ieee.{span, climb, size, odd, units, round, neg, sum,
 use Rattle.model.specs.Claims.{program}
 use Rattle.model.specs.Lowering.{formulas, lower_chunk, lower_formed, lowered, start, counts_of}
 use Rattle.model.specs.Rows.{Summary, words, refusal, Row, rows, nils}
-use Rattle.chunk.specs.declared.header.HeaderRead.{HeaderRead}
-use Rattle.chunk.specs.declared.header.HeaderRead.TheVariants as header
 use Rattle.model.specs.declared.State.{State}
+use Rattle.refusals.specs.declared.Refusal.{Refusal}
+use Rattle.chunk.specs.declared.header.Header.{Header}
 
 -- ---- runs against readings
 
@@ -74,11 +74,11 @@ abbrev run_result : World → ℕ → Result (Unit {0}) → Outcome
 run_result w locals (done _ s m) = of_run (run w (program_of s m) (some_values locals) some_varargs)
 run_result w locals (refused k m) = not_accepted
 
-abbrev run_header : World → Case → HeaderRead → Outcome
-run_header w r (header.Header h) =
+abbrev run_header : World → Case → Read Header Refusal → Outcome
+run_header w r (Ok h) =
     run_result w r.locals
     (lower_chunk r.chunk h (with_table (record { count = r.before; used = 0 }) (start h.next h.locals)) (filled r.before))
-run_header w r (header.Refused k) = not_accepted
+run_header w r (Err k) = not_accepted
 
 ran : World → Case → Outcome
 ran w r = run_header w r (header_at r.chunk)

@@ -3,12 +3,12 @@ use Rattle.std.specs.Prelude.{ℕ, List, Bool, true, false}
 use Rattle.refusals.specs.declared.Refusal.{Refusal}
 use Rattle.model.specs.declared.State.{State}
 use Rattle.model.specs.declared.ExprContext.{ExprContext}
-use Rattle.model.specs.declared.Stepped.{Stepped}
-use Rattle.model.specs.declared.Stepped.TheVariants as stepped
-use Rattle.model.specs.declared.Given.{Given}
-use Rattle.model.specs.declared.Given.TheVariants as given
-use Rattle.model.specs.declared.Described.{Described}
-use Rattle.model.specs.declared.Described.TheVariants as described
+use Rattle.model.specs.Stepped.{Stepped}
+use Rattle.model.specs.Stepped as stepped
+use Rattle.model.specs.Given.{Given}
+use Rattle.model.specs.Given as given
+use Rattle.model.specs.Described.{Described}
+use Rattle.model.specs.Described as described
 
 -- the lent buffers, each whole
 pub record Buffers : Type 0 where
@@ -71,7 +71,7 @@ skip = return tt
 abbrev pub when : Bool → Step (Unit {0}) → Step (Unit {0})
 when t x = elim t [ true ↦ x | false ↦ skip ]
 
--- what the answers of the Rattle functions stand for
+-- what the answers that carry the state stand for, as laws name them
 abbrev pub stepped_is : Stepped → Buffers → Result (Unit {0})
 stepped_is (stepped.Done s) m = done tt s m
 stepped_is (stepped.Refused k) m = refused k m

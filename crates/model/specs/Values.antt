@@ -1,11 +1,10 @@
 -- Values, outward steps and what answers them (document 01, "Running and reading"). Assumes nothing.
-use Rattle.std.specs.Prelude.{ℕ, zero, suc, List, [], ◌∷◌, Bool, true, false}
+use Rattle.folding.specs.Numeral.{Fold}
+use Rattle.std.specs.Prelude.{ℕ, zero, suc, List, [], ◌∷◌, Bool, true, false, Some, None}
 use Rattle.std.proofs.Math.Option.{Option, some, none}
 use Rattle.std.specs.Float.{binary64}
 use Rattle.std.specs.Float.Ieee.{of_bits}
 use Rattle.folding.specs.Folding.{fold_of}
-use Rattle.folding.specs.declared.Fold.{Fold}
-use Rattle.folding.specs.declared.Fold.TheVariants.{Folded, Kept}
 use Rattle.folding.specs.declared.Arith.{Arith}
 use Rattle.folding.specs.declared.Arith.TheVariants.{Unm}
 use Rattle.constants.specs.Entry.{Constant, nil as knil, truth as ktruth, number as knumber, text as ktext, same_bytes}
@@ -97,9 +96,9 @@ bits (other i) = none
 
 abbrev pub folds : Arith → Option ℕ → Option ℕ → Fold
 folds o (some a) (some b) = fold_of o (of_bits binary64 a) (of_bits binary64 b)
-folds o (some a) none = Kept
-folds o none (some b) = Kept
-folds o none none = Kept
+folds o (some a) none = None
+folds o none (some b) = None
+folds o none none = None
 
 module _ (w : World) where
   -- a step answered by one value, by a list, by a truth value
@@ -114,8 +113,8 @@ module _ (w : World) where
 
   -- arithmetic is inward where folding takes the values, else a step
   abbrev pub unless_folds : Fold → StepKind → List Value → List Outward → Taken Value
-  unless_folds (Folded n) k vs h = taken (number n.bits) h
-  unless_folds Kept k vs h = ask k vs h
+  unless_folds (Some n) k vs h = taken (number n.bits) h
+  unless_folds None k vs h = ask k vs h
 
   unfoldable pub compute : Arith → Value → Value → List Outward → Taken Value
   compute o a b h = unless_folds (folds o (bits a) (bits b)) (arithmetic o) (a ∷ b ∷ []) h

@@ -1,15 +1,15 @@
-// The types that the lowering and its definitions share: the compiler's state, the expression descriptor, and the answers of the lowering's steps (rilua's codegen.rs).
+// The types that the lowering and its definitions share: the compiler's state with the buffers that it writes, the expression descriptor, and a lowering's counts (rilua's codegen.rs).
 #![tactic(auto)]
 
 ghost use Rattle.std.specs.Prelude.{◌≡◌};
-ghost use Rattle.model.specs.Descriptor.{new_of, descriptor_of};
+ghost use Rattle.model.specs.Descriptor.{new_of, descriptor_of, has_jumps, is_numeral};
 
 use constants::Table;
 use folding::Numeral;
 use refusals::Refusal;
 
 // What a descriptor stands for, and so what its info and aux are.
-#[derive(Clone, Copy)]
+#[derive(Clone, Copy, Debug, PartialEq, Eq)]
 pub enum ExprKind {
     Nil,
     True,
@@ -36,7 +36,8 @@ pub enum ExprKind {
     VarArg,
 }
 
-// The descriptor of an expression: what of it has been emitted, and where its value is. The jump lists t (taken where it is true) and f (where it is false) are 0 for none, or k + 1 for the word k.
+// The descriptor of an expression: what of it has been emitted, and where its value is. The jump lists t (taken where it is true) and f (where it is false) are 0 for none, or k + 1 for the word k:
+// numbers and no `Option`, as in the words that thread them and in the definitions of model/specs/Jumps.antt and their theorems, which may not change.
 #[derive(Clone, Copy)]
 pub struct ExprContext {
     pub kind: ExprKind,
@@ -76,11 +77,23 @@ impl ExprContext {
             f: 0,
         }
     }
+
+    pub fn has_jumps(&self) -> bool
+        ensures { has_jumps self.now ≡ result }
+    {
+        self.t != self.f
+    }
+
+    pub fn is_numeral(&self) -> bool
+        ensures { is_numeral self.now ≡ result }
+    {
+        self.kind == ExprKind::KNum && self.t == 0 && self.f == 0
+    }
 }
 
 // `FuncState` and the current line: the place in the chunk, the line, the words so far, the constants so far, the number of locals (`num_active_vars`),
 // the next free register (`free_reg`), the registers in all (`max_stack_size`), the jumps that lead to the word to come (a list), and the last label
-// (`last_target`: 0 for none, or k + 1 for the word k).
+// (`last_target`: 0 for none, or k + 1 for the word k; jpc and label are numbers for the reason given at the lists of `ExprContext`).
 #[derive(Clone, Copy)]
 pub struct State {
     pub at: usize,
@@ -94,25 +107,16 @@ pub struct State {
     pub label: usize,
 }
 
-// The answer of a step that only changes the state.
-#[derive(Clone, Copy)]
-pub enum Stepped {
-    Refused(Refusal),
-    Done(State),
-}
-
-// The answer of a step that also gives a number: a word, a register, a constant or a jump list.
-#[derive(Clone, Copy)]
-pub enum Given {
-    Refused(Refusal),
-    Done(State, usize),
-}
-
-// The answer of a step that gives a descriptor.
-#[derive(Clone, Copy)]
-pub enum Described {
-    Refused(Refusal),
-    Done(State, ExprContext),
+// The state with the buffers that it writes: rilua's `FuncState`, whose `Proto` has the five as lists. A step changes it in place. The buffers are lent, and their lengths in use stand in the state
+// (pc, table): the project's rule is fixed memory, which callers in C own.
+#[derive(Drop)]
+pub struct FuncState<'a> {
+    pub code: &'a mut [u32],
+    pub lines: &'a mut [u32],
+    pub kinds: &'a mut [u8],
+    pub values: &'a mut [u64],
+    pub pool: &'a mut [u8],
+    pub state: State,
 }
 
 // What a lowering gives: the counts of words, constants and text bytes, and the frame.
@@ -122,11 +126,4 @@ pub struct Counts {
     pub constants: usize,
     pub text: usize,
     pub frame: usize,
-}
-
-// The answer of a whole lowering.
-#[derive(Clone, Copy)]
-pub enum Lowered {
-    Refused(Refusal),
-    Done(Counts),
 }

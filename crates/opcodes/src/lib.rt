@@ -4,7 +4,7 @@
 ghost use Rattle.std.specs.Prelude.{◌≡◌};
 ghost use Rattle.opcodes.specs.OpCodes.{code_of, op_code_of, test_mode};
 
-#[derive(Clone, Copy)]
+#[derive(Clone, Copy, PartialEq, Eq, Debug)]
 pub enum OpCode {
     Move,
     LoadK,
@@ -46,12 +46,12 @@ pub enum OpCode {
     VarArg,
 }
 
-impl OpCode {
-    // The opcode's number, 0 to 37.
-    pub fn number(self) -> u32
-        ensures { code_of self ≡ result }
-    {
-        match self {
+// An opcode's number, 0 to 37.
+impl From<OpCode> for u32 {
+    ghost from_gives = { λ op n. code_of op ≡ n };
+
+    fn from(op: OpCode) -> u32 {
+        match op {
             OpCode::Move => 0,
             OpCode::LoadK => 1,
             OpCode::LoadBool => 2,
@@ -92,12 +92,14 @@ impl OpCode {
             OpCode::VarArg => 37,
         }
     }
+}
 
-    // The opcode of a number; `Move` above 37.
+// The opcode of a number; `Move` above 37.
+impl From<u32> for OpCode {
+    ghost from_gives = { λ n op. op_code_of n ≡ op };
+
     #[tactic(auto, unfolding(crate::specs::OpCodes::op_code_of))]
-    pub fn from_u32(n: u32) -> OpCode
-        ensures { op_code_of n ≡ result }
-    {
+    fn from(n: u32) -> OpCode {
         match n {
             0 => OpCode::Move,
             1 => OpCode::LoadK,
@@ -140,15 +142,16 @@ impl OpCode {
             _ => OpCode::Move,
         }
     }
+}
 
-    // Whether a jump stands behind it that it decides on: `Eq`, `Lt`, `Le`, `Test` and `TestSet`, 23 to 27.
+impl OpCode {
+    // Whether a jump stands behind it that it decides on.
     pub fn is_test_mode(self) -> bool
         ensures { test_mode self ≡ result }
     {
-        let n = self.number();
-        if n < 23 {
-            return false;
-        }
-        n < 28
+        matches!(
+            self,
+            OpCode::Eq | OpCode::Lt | OpCode::Le | OpCode::Test | OpCode::TestSet
+        )
     }
 }

@@ -1,5 +1,6 @@
 -- Operators step by step: what a definition comes to once the answers of its steps are known, as the code reads them. Assumes nothing.
-use Rattle.std.specs.Prelude.{ℕ, Bool, not, ◌&&◌, List, [], ◌≡◌, set}
+use Rattle.folding.specs.Numeral.{Fold}
+use Rattle.std.specs.Prelude.{ℕ, Bool, not, ◌&&◌, List, [], ◌≡◌, set, Some, None}
 use Rattle.std.proofs.Math.Bool.{true, false}
 use Rattle.std.proofs.lemmas.Bool.{false≢true}
 use Rattle.std.proofs.Common.{true≢false, ◌∙◌}
@@ -10,13 +11,10 @@ use Rattle.opcodes.specs.declared.OpCode.{OpCode}
 use Rattle.opcodes.specs.declared.OpCode.TheVariants as op
 use Rattle.folding.specs.Folding.{fold_of}
 use Rattle.folding.specs.declared.Arith.{Arith}
-use Rattle.folding.specs.declared.Fold.{Fold}
-use Rattle.folding.specs.declared.Fold.TheVariants.{Folded, Kept}
 use Rattle.folding.specs.declared.Numeral.{Numeral}
 use Rattle.constants.specs.Entry.{holds}
-use Rattle.constants.specs.Table.{find}
+use Rattle.constants.specs.Table.{find, Found}
 use Rattle.constants.specs.declared.Val.TheVariants as val
-use Rattle.constants.specs.declared.Found.{Found}
 use Rattle.ast.specs.declared.BinOp.{BinOp}
 use Rattle.ast.specs.declared.BinOp.TheVariants as bin
 use Rattle.ast.specs.declared.UnOp.{UnOp}
@@ -44,17 +42,17 @@ use Rattle.operators.specs.Parts.{chosen, arith_of, arith_left, jump_of, comp_se
 module _ (o : Arith) (e₁ e₂ : ExprContext) where
   pub fold_both : {r : Fold} → is_numeral e₁ ≡ true → is_numeral e₂ ≡ true → fold_of o e₁.nval e₂.nval ≡ r → const_fold o e₁ e₂ ≡ r
   fold_both h i q =
-      ap (λ (b : Bool). elim (b && is_numeral e₂) [ true ↦ fold_of o e₁.nval e₂.nval | false ↦ Kept ]) h
-      ∙ ap (λ (b : Bool). elim b [ true ↦ fold_of o e₁.nval e₂.nval | false ↦ Kept ]) i
+      ap (λ (b : Bool). elim (b && is_numeral e₂) [ true ↦ fold_of o e₁.nval e₂.nval | false ↦ None ]) h
+      ∙ ap (λ (b : Bool). elim b [ true ↦ fold_of o e₁.nval e₂.nval | false ↦ None ]) i
       ∙ q
 
-  pub fold_right : is_numeral e₁ ≡ true → is_numeral e₂ ≡ false → const_fold o e₁ e₂ ≡ Kept
+  pub fold_right : is_numeral e₁ ≡ true → is_numeral e₂ ≡ false → const_fold o e₁ e₂ ≡ None
   fold_right h i =
-      ap (λ (b : Bool). elim (b && is_numeral e₂) [ true ↦ fold_of o e₁.nval e₂.nval | false ↦ Kept ]) h
-      ∙ ap (λ (b : Bool). elim b [ true ↦ fold_of o e₁.nval e₂.nval | false ↦ Kept ]) i
+      ap (λ (b : Bool). elim (b && is_numeral e₂) [ true ↦ fold_of o e₁.nval e₂.nval | false ↦ None ]) h
+      ∙ ap (λ (b : Bool). elim b [ true ↦ fold_of o e₁.nval e₂.nval | false ↦ None ]) i
 
-  pub fold_left : is_numeral e₁ ≡ false → const_fold o e₁ e₂ ≡ Kept
-  fold_left h = ap (λ (b : Bool). elim (b && is_numeral e₂) [ true ↦ fold_of o e₁.nval e₂.nval | false ↦ Kept ]) h
+  pub fold_left : is_numeral e₁ ≡ false → const_fold o e₁ e₂ ≡ None
+  fold_left h = ap (λ (b : Bool). elim (b && is_numeral e₂) [ true ↦ fold_of o e₁.nval e₂.nval | false ↦ None ]) h
 
 -- ---- arithmetic
 
@@ -76,11 +74,11 @@ module _ (o : Arith) (e₁ : ExprContext) where
     emit_arith_refused = then_refused (λ (c : ExprContext). arith_left o e₁ c)
 
 module _ (o : Arith) (e₁ e₂ : ExprContext) (s : State) (m : Buffers) where
-  pub arith_folded : {n : Numeral} {d : ExprContext} → const_fold o e₁ e₂ ≡ Folded n → with_number n e₁ ≡ d → code_arith o e₁ e₂ s m ≡ done d s m
+  pub arith_folded : {n : Numeral} {d : ExprContext} → const_fold o e₁ e₂ ≡ Some n → with_number n e₁ ≡ d → code_arith o e₁ e₂ s m ≡ done d s m
   unfolding code_arith
   arith_folded h q = ap (λ (f : Fold). unless_folded f e₁ (emit_arith o e₁ e₂) s m) h ∙ ap (λ (d : ExprContext). done d s m) q
 
-  pub arith_kept : const_fold o e₁ e₂ ≡ Kept → code_arith o e₁ e₂ s m ≡ emit_arith o e₁ e₂ s m
+  pub arith_kept : const_fold o e₁ e₂ ≡ None → code_arith o e₁ e₂ s m ≡ emit_arith o e₁ e₂ s m
   unfolding code_arith
   arith_kept h = ap (λ (f : Fold). unless_folded f e₁ (emit_arith o e₁ e₂) s m) h
 
@@ -356,8 +354,8 @@ module _ (e : ExprContext) (s : State) (m : Buffers) where
   unop_is un.Not h q = absurd (true≢false h)
   unop_is un.Len h q = ap (λ (f : Fold). unless_folded f e (code_unary op.Len e) s m) q
 
-  pub unop_folded : (o : UnOp) {n : Numeral} {d : ExprContext} → is_not o ≡ false → fold_unary o e ≡ Folded n → with_number n e ≡ d → code_unop o e s m ≡ done d s m
+  pub unop_folded : (o : UnOp) {n : Numeral} {d : ExprContext} → is_not o ≡ false → fold_unary o e ≡ Some n → with_number n e ≡ d → code_unop o e s m ≡ done d s m
   unop_folded o h q w = unop_is o h q ∙ ap (λ (d : ExprContext). done d s m) w
 
-  pub unop_kept : (o : UnOp) {k : OpCode} → is_not o ≡ false → fold_unary o e ≡ Kept → unary_op o ≡ k → code_unop o e s m ≡ code_unary k e s m
+  pub unop_kept : (o : UnOp) {k : OpCode} → is_not o ≡ false → fold_unary o e ≡ None → unary_op o ≡ k → code_unop o e s m ≡ code_unary k e s m
   unop_kept o h q w = unop_is o h q ∙ ap (λ (k : OpCode). code_unary k e s m) w

@@ -1,12 +1,11 @@
 -- Parts of the definitions that the code has functions for: what follows the operands. Assumes nothing.
-use Rattle.std.specs.Prelude.{ℕ, ◌-◌, Bool, true, false, ◌&&◌}
+use Rattle.folding.specs.Numeral.{Fold}
+use Rattle.std.specs.Prelude.{ℕ, ◌-◌, Bool, true, false, ◌&&◌, None}
 use Rattle.instructions.specs.Word.{set_b_of}
 use Rattle.opcodes.specs.declared.OpCode.{OpCode}
 use Rattle.opcodes.specs.declared.OpCode.TheVariants as op
 use Rattle.folding.specs.declared.Arith.{Arith}
 use Rattle.folding.specs.declared.Arith.TheVariants as arith
-use Rattle.folding.specs.declared.Fold.{Fold}
-use Rattle.folding.specs.declared.Fold.TheVariants.{Kept}
 use Rattle.ast.specs.declared.UnOp.{UnOp}
 use Rattle.ast.specs.declared.UnOp.TheVariants as un
 use Rattle.model.specs.declared.ExprKind.TheVariants.{KNum, Jmp, Relocable}
@@ -83,5 +82,5 @@ unary_op un.Len = op.Len
 
 abbrev pub fold_unary : UnOp → ExprContext → Fold
 fold_unary un.Neg e = const_fold arith.Unm e (new_of KNum 0)
-fold_unary un.Not e = Kept
-fold_unary un.Len e = Kept
+fold_unary un.Not e = None
+fold_unary un.Len e = None

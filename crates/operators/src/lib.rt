@@ -1,96 +1,37 @@
-// Operators: infix, postfix and prefix, with folding, arithmetic, comparisons and concatenation (rilua's codegen.rs), over the lent buffers.
-// A state and descriptors go in by value and come back in the answer. Nothing is assumed of either.
-#![tactic(auto)]
+// Operators: infix, postfix and prefix, with folding, arithmetic, comparisons and concatenation (rilua's codegen.rs). Nothing is assumed of the state.
+// Of two operands the left one becomes the result; the right one is used up.
+#![tactic(auto, unfolding(model::specs::Steps::and_then))]
 
-ghost use Rattle.std.specs.Prelude.{not, ◌&&◌, ◌≡◌};
-ghost use Rattle.model.specs.Steps.{Buffers, done, and_then, given_is, described_is};
-ghost use Rattle.model.specs.Relations.{AnswersValues, Describes, DescribesWords};
-ghost use Rattle.model.specs.declared.ExprKind.TheVariants.{NonReloc};
-ghost use Rattle.model.specs.Descriptor.{is_numeral, is_kind, has_jumps};
-ghost use Rattle.model.specs.Discharge.{exp2rk as exp2rk_of};
-ghost use Rattle.model.specs.Operators.{arith_op, const_fold, with_number, code_arith, code_unary, code_concat, is_far, far_numeral, either as either_of, emit_comp, code_comp, operand as operand_of, before_right, code_and, code_or, join_concat, after_right, code_unop};
-ghost use Rattle.operators.specs.Parts.{chosen, arith_of, arith_left, jump_of, comp_second, concat_word, concat_left, joined_to, is_not, unary_op, fold_unary};
+ghost use Rattle.std.specs.Prelude.{◌≡◌};
+ghost use Rattle.model.specs.Relations.{Does, Makes, Yields, bufs_of};
+ghost use Rattle.model.specs.Steps.{done};
+ghost use Rattle.model.specs.Operators.{arith_op, const_fold, code_arith, code_unary, code_concat, is_far, far_numeral, either as either_of, emit_comp, code_comp, operand as operand_of, before_right, code_and, code_or, join_concat, after_right, code_unop};
+ghost use Rattle.operators.specs.Parts.{fold_unary};
 
 use ast::{BinOp, UnOp};
 use conditions::{
     bit, code_not, emit_relocable, emit_test, emit_unary, goiffalse, goiftrue, is_relocable,
-    less_one,
 };
-use constants::{Found, find_numeral};
-use discharge::{
-    discharge_vars, exp2anyreg, exp2nextreg, exp2rk, exp2val, has_jumps, set_b_at, with_jumps,
-    with_kind,
-};
-use folding::{Arith, Fold, Numeral};
+use constants::find_numeral;
+use discharge::{discharge_vars, exp2anyreg, exp2nextreg, exp2rk, exp2val, set_b_at};
+use folding::{Arith, Numeral};
 use instructions::{B_SIZE, MAXINDEXRK};
 use jumps::concat_jumps;
-use model::{Described, ExprContext, ExprKind, Given, State};
+use model::{ExprContext, ExprKind, FuncState};
 use opcodes::OpCode;
-use operands::{Operation, free_both, free_expr, is_kind, operation_of, rk};
+use operands::{Operation, free_both, free_expr, rk};
+use refusals::Refusal;
 
 // ---- folding
 
-fn is_numeral(e: ExprContext) -> bool
-    ensures { is_numeral e ≡ result }
-{
-    if is_kind(e, ExprKind::KNum) {
-        if e.t == 0 {
-            return e.f == 0;
-        }
-    }
-    false
-}
-
 // Of numerals without jumps.
-fn const_fold(op: Arith, e1: ExprContext, e2: ExprContext) -> Fold
-    ensures { const_fold op e1 e2 ≡ result }
+fn const_fold(op: Arith, e1: &ExprContext, e2: &ExprContext) -> Option<Numeral>
+    ensures { const_fold op e1.now e2.now ≡ result }
 {
-    if is_numeral(e1) {
-        if is_numeral(e2) {
-            return folding::const_fold(op, e1.nval, e2.nval);
-        }
+    if e1.is_numeral() && e2.is_numeral() {
+        return folding::const_fold(op, e1.nval, e2.nval);
     }
-    Fold::Kept
-}
-
-// The descriptor with another number.
-fn with_number(e: ExprContext, n: Numeral) -> ExprContext
-    ensures { with_number n e ≡ result }
-{
-    let mut d = e;
-    d.nval = n.value;
-    d.bits = n.bits;
-    d
-}
-
-// ---- operands
-
-// Whether a value is in a register and has no jumps.
-fn plain_register(e: ExprContext) -> bool
-    ensures { (not (has_jumps e) && is_kind NonReloc e) ≡ result }
-{
-    if has_jumps(e) {
-        return false;
-    }
-    is_kind(e, ExprKind::NonReloc)
-}
-
-// `exp2rk`, without a call where the value is in a register and has no jumps, as the left operand mostly is.
-fn exp2rk_again(
-    code: &mut [u32],
-    lines: &mut [u32],
-    kinds: &mut [u8],
-    values: &mut [u64],
-    pool: &mut [u8],
-    st: State,
-    e: ExprContext,
-) -> Described
-    ensures { Describes (exp2rk_of e) st result code lines kinds values pool }
-{
-    if plain_register(e) {
-        return Described::Done(st, e);
-    }
-    exp2rk(code, lines, kinds, values, pool, st, e)
+    None
 }
 
 // ---- arithmetic
@@ -109,168 +50,73 @@ fn arith_op(op: Arith) -> OpCode
     }
 }
 
-// The word of two RK operands.
-fn arith_word(
-    code: &mut [u32],
-    lines: &mut [u32],
-    st: State,
-    op: Arith,
-    b: ExprContext,
-    c: ExprContext,
-) -> Described
-    ensures { DescribesWords (arith_of op b c) st result code lines }
-{
-    let s = free_both(st, b, c);
-    emit_relocable(code, lines, s, arith_op(op), rk(b), rk(c), b)
-}
-
-// The left operand goes to RK, the right one being there.
-fn arith_onto(
-    code: &mut [u32],
-    lines: &mut [u32],
-    kinds: &mut [u8],
-    values: &mut [u64],
-    pool: &mut [u8],
-    st: State,
-    op: Arith,
-    e1: ExprContext,
-    c: ExprContext,
-) -> Described
-    ensures { Describes (arith_left op e1 c) st result code lines kinds values pool }
-{
-    let answer = exp2rk_again(code, lines, kinds, values, pool, st, e1);
-    match answer {
-        Described::Done(s, b) => arith_word(code, lines, s, op, b, c),
-        Described::Refused(k) => Described::Refused(k),
-    }
-}
-
 // For + - * / % ^. The right operand goes to RK first.
+#[tactic(auto, unfolding(model::specs::Steps::and_then, model::specs::Operators::code_arith, model::specs::Operators::emit_arith))]
 pub fn code_arith(
-    code: &mut [u32],
-    lines: &mut [u32],
-    kinds: &mut [u8],
-    values: &mut [u64],
-    pool: &mut [u8],
-    st: State,
+    fs: &mut FuncState,
     op: Arith,
-    e1: ExprContext,
-    e2: ExprContext,
-) -> Described
-    ensures { Describes (code_arith op e1 e2) st result code lines kinds values pool }
+    e1: &mut ExprContext,
+    e2: &mut ExprContext,
+) -> Result<(), Refusal>
+    ensures { Makes (code_arith op e1.old e2.old) fs.old result fs.new e1.new }
 {
-    let folded = const_fold(op, e1, e2);
-    match folded {
-        Fold::Folded(n) => Described::Done(st, with_number(e1, n)),
-        Fold::Kept => {
-            let answer = exp2rk(code, lines, kinds, values, pool, st, e2);
-            match answer {
-                Described::Done(s, c) => {
-                    arith_onto(code, lines, kinds, values, pool, s, op, e1, c)
-                }
-                Described::Refused(k) => Described::Refused(k),
-            }
-        }
+    if let Some(n) = const_fold(op, e1, e2) {
+        e1.nval = n.value;
+        e1.bits = n.bits;
+        return Ok(());
     }
+    exp2rk(fs, e2)?;
+    exp2rk(fs, e1)?;
+    free_both(fs, e1, e2);
+    let b = rk(e1);
+    emit_relocable(fs, e1, arith_op(op), b, rk(e2))
 }
 
 // For a unary operator, whose operand is a register.
-pub fn code_unary(
-    code: &mut [u32],
-    lines: &mut [u32],
-    kinds: &mut [u8],
-    values: &mut [u64],
-    pool: &mut [u8],
-    st: State,
-    op: OpCode,
-    e: ExprContext,
-) -> Described
-    ensures { Describes (code_unary op e) st result code lines kinds values pool }
+#[tactic(auto, unfolding(model::specs::Steps::and_then, model::specs::Operators::code_unary))]
+pub fn code_unary(fs: &mut FuncState, op: OpCode, e: &mut ExprContext) -> Result<(), Refusal>
+    ensures { Makes (code_unary op e.old) fs.old result fs.new e.new }
 {
-    let answer = exp2anyreg(code, lines, kinds, values, pool, st, e);
-    match answer {
-        Described::Done(s, d) => emit_unary(code, lines, s, op, d),
-        Described::Refused(k) => Described::Refused(k),
-    }
-}
-
-// The word of two registers, one above the other.
-fn concat_registers(
-    code: &mut [u32],
-    lines: &mut [u32],
-    st: State,
-    b: ExprContext,
-    c: ExprContext,
-) -> Described
-    ensures { DescribesWords (concat_word b c) st result code lines }
-{
-    let s = free_expr(free_expr(st, c), b);
-    emit_relocable(code, lines, s, OpCode::Concat, b.info, c.info, b)
-}
-
-// The left operand goes to a register, the right one being in the next.
-fn concat_onto(
-    code: &mut [u32],
-    lines: &mut [u32],
-    kinds: &mut [u8],
-    values: &mut [u64],
-    pool: &mut [u8],
-    st: State,
-    e1: ExprContext,
-    c: ExprContext,
-) -> Described
-    ensures { Describes (concat_left e1 c) st result code lines kinds values pool }
-{
-    let answer = exp2anyreg(code, lines, kinds, values, pool, st, e1);
-    match answer {
-        Described::Done(s, b) => concat_registers(code, lines, s, b, c),
-        Described::Refused(k) => Described::Refused(k),
-    }
+    exp2anyreg(fs, e)?;
+    emit_unary(fs, e, op)
 }
 
 // For `Concat`, whose operands are registers one above the other.
+#[tactic(auto, unfolding(model::specs::Steps::and_then, model::specs::Operators::code_concat))]
 pub fn code_concat(
-    code: &mut [u32],
-    lines: &mut [u32],
-    kinds: &mut [u8],
-    values: &mut [u64],
-    pool: &mut [u8],
-    st: State,
-    e1: ExprContext,
-    e2: ExprContext,
-) -> Described
-    ensures { Describes (code_concat e1 e2) st result code lines kinds values pool }
+    fs: &mut FuncState,
+    e1: &mut ExprContext,
+    e2: &mut ExprContext,
+) -> Result<(), Refusal>
+    ensures { Makes (code_concat e1.old e2.old) fs.old result fs.new e1.new }
 {
-    let answer = exp2nextreg(code, lines, kinds, values, pool, st, e2);
-    match answer {
-        Described::Done(s, c) => concat_onto(code, lines, kinds, values, pool, s, e1, c),
-        Described::Refused(k) => Described::Refused(k),
-    }
+    exp2nextreg(fs, e2)?;
+    exp2anyreg(fs, e1)?;
+    free_expr(fs, e2);
+    free_expr(fs, e1);
+    let b = e1.info;
+    emit_relocable(fs, e1, OpCode::Concat, b, e2.info)
 }
 
 // ---- comparisons
 
 // No RK operand can name an entry above 255, nor the next one of a table with 256.
-fn is_far(found: Found, count: usize) -> bool
+fn is_far(found: Option<usize>, count: usize) -> bool
     ensures { is_far found count ≡ result }
 {
     match found {
-        Found::At(k) => MAXINDEXRK < k,
-        Found::Nothing => MAXINDEXRK < count,
+        Some(k) => MAXINDEXRK < k,
+        None => MAXINDEXRK < count,
     }
 }
 
 // A numeral that is listed above 255, or unlisted with 256 entries or more (difference 2).
-pub fn far_numeral(kinds: &[u8], values: &[u64], st: State, e: ExprContext) -> bool
-    ensures { AnswersValues (far_numeral e) st (done result st) kinds values }
+#[tactic(auto, unfolding(model::specs::Operators::far_numeral))]
+pub fn far_numeral(fs: &FuncState, e: &ExprContext) -> bool
+    ensures { far_numeral e.now fs.now.state (bufs_of fs.now) ≡ done result fs.now.state (bufs_of fs.now) }
 {
-    if is_numeral(e) {
-        let table = st.table;
-        let count = table.count;
-        let found = find_numeral(kinds, values, count, e.bits);
-        return is_far(found, count);
-    }
-    false
+    let count = fs.state.table.count;
+    e.is_numeral() && is_far(find_numeral(fs.kinds, fs.values, count, e.bits), count)
 }
 
 // The second where they change places.
@@ -280,323 +126,169 @@ fn either(swapped: bool, b: usize, c: usize) -> usize
     if swapped { c } else { b }
 }
 
-// And of descriptors.
-fn choose(second: bool, x: ExprContext, y: ExprContext) -> ExprContext
-    ensures { chosen second x y ≡ result }
-{
-    if second {
-        return y;
-    }
-    x
-}
-
-// The jump of a comparison.
-fn compared(answer: Given, b: ExprContext) -> Described
-    ensures { (m : Buffers) → and_then (given_is answer m) (jump_of b) ≡ described_is result m }
-{
-    match answer {
-        Given::Done(s, list) => Described::Done(
-            s,
-            with_jumps(with_kind(b, ExprKind::Jmp, less_one(list)), 0, 0),
-        ),
-        Given::Refused(k) => Described::Refused(k),
-    }
-}
-
 // The comparison of two RK operands, and its jump.
+#[tactic(auto, unfolding(model::specs::Steps::and_then, model::specs::Operators::emit_comp))]
 fn emit_comp(
-    code: &mut [u32],
-    lines: &mut [u32],
-    st: State,
+    fs: &mut FuncState,
     op: OpCode,
     cond: bool,
     swapped: bool,
-    b: ExprContext,
-    c: ExprContext,
-) -> Described
-    ensures { DescribesWords (emit_comp op cond swapped b c) st result code lines }
+    e1: &mut ExprContext,
+    e2: &ExprContext,
+) -> Result<(), Refusal>
+    ensures { Makes (emit_comp op cond swapped e1.old e2.now) fs.old result fs.new e1.new }
 {
-    let s = free_both(st, b, c);
-    let x = rk(b);
-    let y = rk(c);
-    let answer = emit_test(
-        code,
-        lines,
-        s,
+    free_both(fs, e1, e2);
+    let x = rk(e1);
+    let y = rk(e2);
+    let list = emit_test(
+        fs,
         op,
         bit(cond),
         either(swapped, x, y),
         either(swapped, y, x),
-    );
-    compared(answer, b)
-}
-
-// The second operand goes to RK, the first being there; with a far numeral that is the left one.
-fn compare_with(
-    code: &mut [u32],
-    lines: &mut [u32],
-    kinds: &mut [u8],
-    values: &mut [u64],
-    pool: &mut [u8],
-    st: State,
-    op: OpCode,
-    cond: bool,
-    swapped: bool,
-    far: bool,
-    x: ExprContext,
-    second: ExprContext,
-) -> Described
-    ensures { Describes (comp_second op cond swapped far x second) st result code lines kinds values pool }
-{
-    let answer = exp2rk(code, lines, kinds, values, pool, st, second);
-    match answer {
-        Described::Done(s, y) => emit_comp(
-            code,
-            lines,
-            s,
-            op,
-            cond,
-            swapped,
-            choose(far, x, y),
-            choose(far, y, x),
-        ),
-        Described::Refused(k) => Described::Refused(k),
-    }
+    )?;
+    e1.kind = ExprKind::Jmp;
+    e1.info = list.saturating_sub(1);
+    e1.t = 0;
+    e1.f = 0;
+    Ok(())
 }
 
 // The left operand goes to RK first, unless it is a far numeral (difference 2).
+#[tactic(auto, unfolding(model::specs::Steps::and_then, model::specs::Operators::code_comp, model::specs::Operators::compare_operands))]
 pub fn code_comp(
-    code: &mut [u32],
-    lines: &mut [u32],
-    kinds: &mut [u8],
-    values: &mut [u64],
-    pool: &mut [u8],
-    st: State,
+    fs: &mut FuncState,
     op: OpCode,
     cond: bool,
     swapped: bool,
-    e1: ExprContext,
-    e2: ExprContext,
-) -> Described
-    ensures { Describes (code_comp op cond swapped e1 e2) st result code lines kinds values pool }
+    e1: &mut ExprContext,
+    e2: &mut ExprContext,
+) -> Result<(), Refusal>
+    ensures { Makes (code_comp op cond swapped e1.old e2.old) fs.old result fs.new e1.new }
 {
-    let far = far_numeral(kinds, values, st, e1);
-    let first = choose(far, e1, e2);
-    let second = choose(far, e2, e1);
-    let answer = exp2rk_again(code, lines, kinds, values, pool, st, first);
-    match answer {
-        Described::Done(s, x) => compare_with(
-            code, lines, kinds, values, pool, s, op, cond, swapped, far, x, second,
-        ),
-        Described::Refused(k) => Described::Refused(k),
+    if far_numeral(fs, e1) {
+        exp2rk(fs, e2)?;
+        exp2rk(fs, e1)?;
+        return emit_comp(fs, op, cond, swapped, e1, e2);
     }
+    exp2rk(fs, e1)?;
+    exp2rk(fs, e2)?;
+    emit_comp(fs, op, cond, swapped, e1, e2)
 }
 
 // ---- before and after the right operand
 
 // An operand of arithmetic or of a comparison: a numeral stays as it is.
-fn operand(
-    code: &mut [u32],
-    lines: &mut [u32],
-    kinds: &mut [u8],
-    values: &mut [u64],
-    pool: &mut [u8],
-    st: State,
-    e: ExprContext,
-) -> Described
-    ensures { Describes (operand_of e) st result code lines kinds values pool }
+#[tactic(auto, unfolding(model::specs::Operators::operand))]
+fn operand(fs: &mut FuncState, e: &mut ExprContext) -> Result<(), Refusal>
+    ensures { Makes (operand_of e.old) fs.old result fs.new e.new }
 {
-    if is_numeral(e) {
-        return Described::Done(st, e);
+    if e.is_numeral() {
+        return Ok(());
     }
-    exp2rk(code, lines, kinds, values, pool, st, e)
+    exp2rk(fs, e)
 }
 
-pub fn infix(
-    code: &mut [u32],
-    lines: &mut [u32],
-    kinds: &mut [u8],
-    values: &mut [u64],
-    pool: &mut [u8],
-    st: State,
-    op: BinOp,
-    e: ExprContext,
-) -> Described
-    ensures { Describes (before_right op e) st result code lines kinds values pool }
+#[tactic(auto, unfolding(model::specs::Operators::before_right))]
+pub fn infix(fs: &mut FuncState, op: BinOp, e: &mut ExprContext) -> Result<(), Refusal>
+    ensures { Makes (before_right op e.old) fs.old result fs.new e.new }
 {
-    let f = operation_of(op);
-    match f {
-        Operation::And => goiftrue(code, lines, kinds, values, pool, st, e),
-        Operation::Or => goiffalse(code, lines, kinds, values, pool, st, e),
-        Operation::Concat => exp2nextreg(code, lines, kinds, values, pool, st, e),
-        _ => operand(code, lines, kinds, values, pool, st, e),
+    match op {
+        BinOp::And => goiftrue(fs, e),
+        BinOp::Or => goiffalse(fs, e),
+        BinOp::Concat => exp2nextreg(fs, e),
+        _ => operand(fs, e),
     }
 }
 
 // The right value, with the jumps of the left.
-fn code_and(
-    code: &mut [u32],
-    lines: &mut [u32],
-    st: State,
-    e1: ExprContext,
-    e2: ExprContext,
-) -> Described
-    ensures { DescribesWords (code_and e1 e2) st result code lines }
+#[tactic(auto, unfolding(model::specs::Steps::and_then, model::specs::Operators::code_and, model::specs::Emission::concat))]
+fn code_and(fs: &mut FuncState, e1: &mut ExprContext, e2: &mut ExprContext) -> Result<(), Refusal>
+    ensures { Makes (code_and e1.old e2.old) fs.old result fs.new e1.new }
 {
-    let answer = discharge_vars(code, lines, st, e2);
-    match answer {
-        Described::Done(s, d) => {
-            let f = concat_jumps(code, d.f, e1.f);
-            Described::Done(s, with_jumps(d, d.t, f))
-        }
-        Described::Refused(k) => Described::Refused(k),
-    }
+    discharge_vars(fs, e2)?;
+    e2.f = concat_jumps(fs.code, e2.f, e1.f);
+    *e1 = *e2;
+    Ok(())
 }
 
-fn code_or(
-    code: &mut [u32],
-    lines: &mut [u32],
-    st: State,
-    e1: ExprContext,
-    e2: ExprContext,
-) -> Described
-    ensures { DescribesWords (code_or e1 e2) st result code lines }
+#[tactic(auto, unfolding(model::specs::Steps::and_then, model::specs::Operators::code_or, model::specs::Emission::concat))]
+fn code_or(fs: &mut FuncState, e1: &mut ExprContext, e2: &mut ExprContext) -> Result<(), Refusal>
+    ensures { Makes (code_or e1.old e2.old) fs.old result fs.new e1.new }
 {
-    let answer = discharge_vars(code, lines, st, e2);
-    match answer {
-        Described::Done(s, d) => {
-            let t = concat_jumps(code, d.t, e1.t);
-            Described::Done(s, with_jumps(d, t, d.f))
-        }
-        Described::Refused(k) => Described::Refused(k),
-    }
+    discharge_vars(fs, e2)?;
+    e2.t = concat_jumps(fs.code, e2.t, e1.t);
+    *e1 = *e2;
+    Ok(())
 }
 
 // A concatenation on the right is lengthened to the left; another value goes to the next register.
-fn concat_value(
-    code: &mut [u32],
-    lines: &mut [u32],
-    kinds: &mut [u8],
-    values: &mut [u64],
-    pool: &mut [u8],
-    st: State,
-    e1: ExprContext,
-    e2: ExprContext,
-) -> Described
-    ensures { Describes (joined_to e1 e2) st result code lines kinds values pool }
-{
-    if is_relocable(code, e2, OpCode::Concat) {
-        set_b_at(code, e2.info, (e1.info % B_SIZE) as u32);
-        return Described::Done(
-            free_expr(st, e1),
-            with_kind(e1, ExprKind::Relocable, e2.info),
-        );
-    }
-    let answer = exp2nextreg(code, lines, kinds, values, pool, st, e2);
-    match answer {
-        Described::Done(s, d) => code_concat(code, lines, kinds, values, pool, s, e1, d),
-        Described::Refused(k) => Described::Refused(k),
-    }
-}
-
+#[tactic(auto, using(instructions::specs::Laws::set_b_mod), unfolding(model::specs::Steps::and_then, model::specs::Operators::join_concat))]
 fn join_concat(
-    code: &mut [u32],
-    lines: &mut [u32],
-    kinds: &mut [u8],
-    values: &mut [u64],
-    pool: &mut [u8],
-    st: State,
-    e1: ExprContext,
-    e2: ExprContext,
-) -> Described
-    ensures { Describes (join_concat e1 e2) st result code lines kinds values pool }
+    fs: &mut FuncState,
+    e1: &mut ExprContext,
+    e2: &mut ExprContext,
+) -> Result<(), Refusal>
+    ensures { Makes (join_concat e1.old e2.old) fs.old result fs.new e1.new }
 {
-    let answer = exp2val(code, lines, kinds, values, pool, st, e2);
-    match answer {
-        Described::Done(s, d) => concat_value(code, lines, kinds, values, pool, s, e1, d),
-        Described::Refused(k) => Described::Refused(k),
+    exp2val(fs, e2)?;
+    if is_relocable(fs, e2, OpCode::Concat) {
+        free_expr(fs, e1);
+        set_b_at(fs.code, e2.info, (e1.info % B_SIZE) as u32);
+        e1.kind = ExprKind::Relocable;
+        e1.info = e2.info;
+        return Ok(());
     }
+    exp2nextreg(fs, e2)?;
+    code_concat(fs, e1, e2)
 }
 
+#[tactic(auto, unfolding(model::specs::Operators::after_right))]
 pub fn postfix(
-    code: &mut [u32],
-    lines: &mut [u32],
-    kinds: &mut [u8],
-    values: &mut [u64],
-    pool: &mut [u8],
-    st: State,
+    fs: &mut FuncState,
     op: BinOp,
-    e1: ExprContext,
-    e2: ExprContext,
-) -> Described
-    ensures { Describes (after_right op e1 e2) st result code lines kinds values pool }
+    e1: &mut ExprContext,
+    e2: &mut ExprContext,
+) -> Result<(), Refusal>
+    ensures { Makes (after_right op e1.old e2.old) fs.old result fs.new e1.new }
 {
-    let f = operation_of(op);
-    match f {
-        Operation::And => code_and(code, lines, st, e1, e2),
-        Operation::Or => code_or(code, lines, st, e1, e2),
-        Operation::Concat => join_concat(code, lines, kinds, values, pool, st, e1, e2),
-        Operation::Arithmetic(a) => code_arith(code, lines, kinds, values, pool, st, a, e1, e2),
-        Operation::Comparison(o, cond, swapped) => {
-            code_comp(
-                code, lines, kinds, values, pool, st, o, cond, swapped, e1, e2,
-            )
-        }
+    match Operation::from(op) {
+        Operation::And => code_and(fs, e1, e2),
+        Operation::Or => code_or(fs, e1, e2),
+        Operation::Concat => join_concat(fs, e1, e2),
+        Operation::Arithmetic(a) => code_arith(fs, a, e1, e2),
+        Operation::Comparison(o, cond, swapped) => code_comp(fs, o, cond, swapped, e1, e2),
     }
 }
 
 // ---- unary operators
 
-fn is_not(op: UnOp) -> bool
-    ensures { is_not op ≡ result }
-{
-    match op {
-        UnOp::Neg => false,
-        UnOp::Not => true,
-        UnOp::Len => false,
-    }
-}
-
-fn unary_op(op: UnOp) -> OpCode
-    ensures { unary_op op ≡ result }
-{
-    match op {
-        UnOp::Neg => OpCode::Unm,
-        UnOp::Not => OpCode::Not,
-        UnOp::Len => OpCode::Len,
-    }
-}
-
 // A negated numeral is folded, unless it is a NaN.
-fn fold_unary(op: UnOp, e: ExprContext) -> Fold
-    ensures { fold_unary op e ≡ result }
+fn fold_unary(op: UnOp, e: &ExprContext) -> Option<Numeral>
+    ensures { fold_unary op e.now ≡ result }
 {
     match op {
-        UnOp::Neg => const_fold(Arith::Unm, e, ExprContext::new(ExprKind::KNum, 0)),
-        UnOp::Not => Fold::Kept,
-        UnOp::Len => Fold::Kept,
+        UnOp::Neg => const_fold(Arith::Unm, e, &ExprContext::new(ExprKind::KNum, 0)),
+        UnOp::Not | UnOp::Len => None,
     }
 }
 
-// The operand of `Len` is a register, and that of `Unm` too (difference 6). One call for both, which the compiler inlines.
-pub fn prefix(
-    code: &mut [u32],
-    lines: &mut [u32],
-    kinds: &mut [u8],
-    values: &mut [u64],
-    pool: &mut [u8],
-    st: State,
-    op: UnOp,
-    e: ExprContext,
-) -> Described
-    ensures { Describes (code_unop op e) st result code lines kinds values pool }
+// The operand of `Len` is a register, and that of `Unm` too (difference 6).
+#[tactic(auto, unfolding(model::specs::Operators::code_unop))]
+pub fn prefix(fs: &mut FuncState, op: UnOp, e: &mut ExprContext) -> Result<(), Refusal>
+    ensures { Makes (code_unop op e.old) fs.old result fs.new e.new }
 {
-    if is_not(op) {
-        return code_not(code, lines, kinds, values, pool, st, e);
-    }
-    let folded = fold_unary(op, e);
-    match folded {
-        Fold::Folded(n) => Described::Done(st, with_number(e, n)),
-        Fold::Kept => code_unary(code, lines, kinds, values, pool, st, unary_op(op), e),
+    match op {
+        UnOp::Not => code_not(fs, e),
+        UnOp::Len => code_unary(fs, OpCode::Len, e),
+        UnOp::Neg => {
+            if let Some(n) = fold_unary(op, e) {
+                e.nval = n.value;
+                e.bits = n.bits;
+                return Ok(());
+            }
+            code_unary(fs, OpCode::Unm, e)
+        }
     }
 }

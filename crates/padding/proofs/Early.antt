@@ -1,6 +1,6 @@
 -- The form refuses with refusals of the form only. By the cases of reading. Assumes nothing.
 use Prim.Native.Nat.{ℕ, zero, suc, ◌-◌, ◌/◌, ◌%◌}
-use Rattle.std.specs.Prelude.{Bool, true, false, ◌≡◌, List, length, eqb, leb}
+use Rattle.std.specs.Prelude.{Bool, true, false, ◌≡◌, List, length, eqb, leb, Option, Some, None, Result, Ok, Err}
 use Rattle.std.proofs.Math.Path.{refl}
 use Rattle.std.proofs.Common.{subst}
 use Rattle.refusals.specs.declared.Refusal.{Refusal}
@@ -8,24 +8,18 @@ use Rattle.refusals.specs.declared.Refusal.TheVariants as refusal
 use Rattle.cursor.specs.Fields.{byte_at}
 use Rattle.nodes.specs.Nodes.{fields_at, front_at, with_front, node_at}
 use Rattle.nodes.specs.Reads.{on_byte, on_require, on_test}
-use Rattle.nodes.specs.declared.node.Front.{Front}
-use Rattle.nodes.specs.declared.node.Front.TheVariants as front
-use Rattle.nodes.specs.declared.node.NodeRead.{NodeRead}
-use Rattle.nodes.specs.declared.node.NodeRead.TheVariants as node
 use Rattle.chunk.specs.Ast.{Exprs}
 use Rattle.chunk.specs.Headers.{max_locals, names_at, skipped, with_skipped, formulas_at, header_at}
 use Rattle.chunk.specs.Form.{max_length, max_nesting, Parsed, parsed, refused as unparsed, exprs_at, rest, with_node, expr_at, Formed, unformed, with_header, with_exprs, ended, form_of}
 use Rattle.chunk.specs.declared.header.Header.{Header}
-use Rattle.chunk.specs.declared.header.HeaderRead.{HeaderRead}
-use Rattle.chunk.specs.declared.header.HeaderRead.TheVariants as header
-use Rattle.chunk.specs.declared.header.Skipped.{Skipped}
-use Rattle.chunk.specs.declared.header.Skipped.TheVariants as skip
 use Rattle.padding.specs.Early.{OfFormFormed, OfFormFront, OfFormHeader, OfFormNode, OfFormParsed, form_ended, form_exprs, form_fields, form_formulas, form_front, form_rest, stage_of, form}
+use Rattle.ast.specs.declared.Node.{Node}
+use Rattle.nodes.specs.declared.node.Front.{Front}
 
 module _ (s : List ℕ) where
-  behind_front : (va : Bool) (f : Front) → OfFormFront f → OfFormNode (with_front f (fields_at s va))
-  behind_front va (front.Front k at line) h = form_fields s va k at line
-  behind_front va (front.Refused k) h = h
+  behind_front : (va : Bool) (f : Result Front Refusal) → OfFormFront f → OfFormNode (with_front f (fields_at s va))
+  behind_front va (Ok r) h = form_fields s va r.kind r.next r.line
+  behind_front va (Err k) h = h
 
   form_node : (va : Bool) (at line : ℕ) → OfFormNode (node_at s va at line)
   unfolding node_at
@@ -36,13 +30,13 @@ module _ (s : List ℕ) where
   form_expr va zero at line = refl
   form_expr va (suc left) at line = go (node_at s va at line) (form_node va at line) (form_expr va left)
     where
-      go : (r : NodeRead) → OfFormNode r → ((at line : ℕ) → OfFormParsed (expr_at s va left at line)) → OfFormParsed (with_node r λ n. rest (expr_at s va left) (record { line = n.line; place = at; nesting = max_nesting - left }) n.head n.next n.line)
-      go (node.Node n) h g = form_rest s (expr_at s va left) g _ n.head n.next n.line
-      go (node.Refused k) h g = h
+      go : (r : Result Node Refusal) → OfFormNode r → ((at line : ℕ) → OfFormParsed (expr_at s va left at line)) → OfFormParsed (with_node r λ n. rest (expr_at s va left) (record { line = n.line; place = at; nesting = max_nesting - left }) n.head n.next n.line)
+      go (Ok n) h g = form_rest s (expr_at s va left) g _ n.head n.next n.line
+      go (Err k) h g = h
 
-  form_names : (n : ℕ) (va : Bool) (r : Skipped) → OfFormHeader (with_skipped r (header.Refused refusal.Missing) λ at. formulas_at s n 2 va at)
-  form_names n va skip.Missing = refl
-  form_names n va (skip.To at) = form_formulas s n 2 va at
+  form_names : (n : ℕ) (va : Bool) (r : Option ℕ) → OfFormHeader (with_skipped r (Err refusal.Missing) λ at. formulas_at s n 2 va at)
+  form_names n va None = refl
+  form_names n va (Some at) = form_formulas s n 2 va at
 
   form_header : OfFormHeader (header_at s)
   unfolding header_at
@@ -60,11 +54,11 @@ module _ (s : List ℕ) where
       all h (parsed fs at line) l = form_ended s h fs at
       all h (unparsed k) l = l
 
-      read : (r : HeaderRead) → OfFormHeader r → OfFormFormed (with_header r λ h. with_exprs (exprs_at (expr_at s h.varargs max_nesting) h.formulas h.next 1) (ended s h))
-      read (header.Header h) l = all h (exprs_at (expr_at s h.varargs max_nesting) h.formulas h.next 1) (form_exprs s (expr_at s h.varargs max_nesting) (form_expr h.varargs max_nesting) h.formulas h.next 1)
-      read (header.Refused k) l = l
+      read : (r : Result Header Refusal) → OfFormHeader r → OfFormFormed (with_header r λ h. with_exprs (exprs_at (expr_at s h.varargs max_nesting) h.formulas h.next 1) (ended s h))
+      read (Ok h) l = all h (exprs_at (expr_at s h.varargs max_nesting) h.formulas h.next 1) (form_exprs s (expr_at s h.varargs max_nesting) (form_expr h.varargs max_nesting) h.formulas h.next 1)
+      read (Err k) l = l
 
-      go : (t : Bool) (r : HeaderRead) → OfFormHeader r → OfFormFormed (elim t as (λ (_ : Bool). Formed) [ false ↦ unformed refusal.TooLong | true ↦ with_header r λ h. with_exprs (exprs_at (expr_at s h.varargs max_nesting) h.formulas h.next 1) (ended s h) ])
+      go : (t : Bool) (r : Result Header Refusal) → OfFormHeader r → OfFormFormed (elim t as (λ (_ : Bool). Formed) [ false ↦ unformed refusal.TooLong | true ↦ with_header r λ h. with_exprs (exprs_at (expr_at s h.varargs max_nesting) h.formulas h.next 1) (ended s h) ])
       go true r l = read r l
       go false r l = refl
 

@@ -1,6 +1,6 @@
 -- Expressions and argument lists keep the tails clean: part by part, by induction on the arguments left and on the nestings left.
 use Prim.Native.Nat.{ℕ, zero, suc}
-use Rattle.std.specs.Prelude.{refl, List}
+use Rattle.std.specs.Prelude.{refl, List, Result, Ok, Err}
 use Rattle.std.proofs.Math.Option.{Option, some, none}
 use Rattle.refusals.specs.declared.Refusal.TheVariants as refusal
 use Rattle.constants.specs.declared.Val.TheVariants as val
@@ -17,8 +17,6 @@ use Rattle.ast.specs.declared.Many.{Many}
 use Rattle.ast.specs.declared.Many.TheVariants as many
 use Rattle.ast.specs.declared.Head.{Head}
 use Rattle.ast.specs.declared.Head.TheVariants as head
-use Rattle.nodes.specs.declared.node.NodeRead.{NodeRead}
-use Rattle.nodes.specs.declared.node.NodeRead.TheVariants as read
 use Rattle.chunk.specs.Headers.{names_at}
 use Rattle.chunk.specs.Form.{names_of}
 use Rattle.chunk.specs.declared.header.Header.{Header}
@@ -36,6 +34,8 @@ use Rattle.padding.specs.Discharge.{keeps_discharge_vars, keeps_free_expr}
 use Rattle.padding.proofs.Discharge.{keeps_exp2nextreg, keeps_exp2anyreg, keeps_exp2rk}
 use Rattle.padding.proofs.Operators.{keeps_before_right, keeps_after_right, keeps_code_unop}
 use Rattle.padding.specs.Expressions.{keeps_closed_call, keeps_emit_call, keeps_set_multret}
+use Rattle.ast.specs.declared.Node.{Node}
+use Rattle.refusals.specs.declared.Refusal.{Refusal}
 
 module _ {z : Sizes} where
   keeps_last_argument : (func : ExprContext) (line : ℕ) (e : ExprContext) → Keeps z (last_argument func line e)
@@ -114,9 +114,9 @@ module _ {z : Sizes} where
     keeps_compile_head k (head.Two t) = keeps_then k (λ e. keeps_then (keeps_between t e) (λ e₁. keeps_then k (λ e₂. keeps_after_two t e₁ e₂)))
     keeps_compile_head k (head.Many m n) = keeps_then k (λ e. keeps_then (keeps_callee m e) (λ func. keeps_then keeps_get (λ s. keeps_compile_funcargs k func s.line n)))
 
-    keeps_compile_node : {f : Step ExprContext} → Keeps z f → (r : NodeRead) → Keeps z (compile_node chunk h f r)
-    keeps_compile_node k (read.Refused r) = keeps_refuse r
-    keeps_compile_node k (read.Node n) = keeps_then (keeps_change (with_place n.next n.line) (λ s. refl) (λ s. refl)) (λ _. keeps_compile_head k n.head)
+    keeps_compile_node : {f : Step ExprContext} → Keeps z f → (r : Result Node Refusal) → Keeps z (compile_node chunk h f r)
+    keeps_compile_node k (Err r) = keeps_refuse r
+    keeps_compile_node k (Ok n) = keeps_then (keeps_change (with_place n.next n.line) (λ s. refl) (λ s. refl)) (λ _. keeps_compile_head k n.head)
 
     pub keeps_compile_expr : (left : ℕ) → Keeps z (compile_expr chunk h left)
     unfolding compile_expr

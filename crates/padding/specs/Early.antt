@@ -1,7 +1,7 @@
 -- The form refuses with refusals of the form only. By the cases of reading. Assumes nothing.
 -- What rests on something that a must-fail edit breaks stands in proofs/Early.antt.
 use Prim.Native.Nat.{ℕ, zero, suc, ◌+◌, ◌/◌, ◌%◌}
-use Rattle.std.specs.Prelude.{Bool, ◌≡◌, List, length, eqb}
+use Rattle.std.specs.Prelude.{Bool, ◌≡◌, List, length, eqb, Result, Ok, Err}
 use Rattle.std.proofs.Math.Path.{refl}
 pub use Rattle.refusals.specs.Stage.{stage_of, form}
 use Rattle.refusals.specs.declared.Refusal.{Refusal}
@@ -14,32 +14,28 @@ use Rattle.ast.specs.declared.Head.{Head}
 use Rattle.ast.specs.declared.Head.TheVariants as head
 use Rattle.nodes.specs.Nodes.{fields_at, front_at}
 use Rattle.nodes.specs.Reads.{on_byte, on_line, on_bits, on_text, on_kind, on_bin, on_un, on_require, on_test}
-use Rattle.nodes.specs.declared.node.Front.{Front}
-use Rattle.nodes.specs.declared.node.Front.TheVariants as front
-use Rattle.nodes.specs.declared.node.NodeRead.{NodeRead}
-use Rattle.nodes.specs.declared.node.NodeRead.TheVariants as node
 use Rattle.chunk.specs.Ast.{Span, Expr, Exprs}
 use Rattle.chunk.specs.Headers.{formulas_at}
 use Rattle.chunk.specs.Form.{Parsed, parsed, refused as unparsed, with_parsed, exprs_at, rest, Formed, formed, unformed, ended}
 use Rattle.chunk.specs.declared.header.Header.{Header}
-use Rattle.chunk.specs.declared.header.HeaderRead.{HeaderRead}
-use Rattle.chunk.specs.declared.header.HeaderRead.TheVariants as header
+use Rattle.ast.specs.declared.Node.{Node}
+use Rattle.nodes.specs.declared.node.Front.{Front}
 
 -- what each reader refuses with is of the form
 abbrev OfForm : Refusal → Type 0
 OfForm x = stage_of x ≡ form
 
-abbrev pub OfFormNode : NodeRead → Type 0
-OfFormNode (node.Node n) = Unit {0}
-OfFormNode (node.Refused k) = OfForm k
+abbrev pub OfFormNode : Result Node Refusal → Type 0
+OfFormNode (Ok n) = Unit {0}
+OfFormNode (Err k) = OfForm k
 
-abbrev pub OfFormFront : Front → Type 0
-OfFormFront (front.Front k at line) = Unit {0}
-OfFormFront (front.Refused k) = OfForm k
+abbrev pub OfFormFront : Result Front Refusal → Type 0
+OfFormFront (Ok r) = Unit {0}
+OfFormFront (Err k) = OfForm k
 
-abbrev pub OfFormHeader : HeaderRead → Type 0
-OfFormHeader (header.Header h) = Unit {0}
-OfFormHeader (header.Refused k) = OfForm k
+abbrev pub OfFormHeader : Result Header Refusal → Type 0
+OfFormHeader (Ok h) = Unit {0}
+OfFormHeader (Err k) = OfForm k
 
 abbrev pub OfFormParsed : {A : Type 0} → Parsed A → Type 0
 OfFormParsed (parsed a at line) = Unit {0}

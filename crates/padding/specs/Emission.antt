@@ -1,6 +1,6 @@
 -- Emitting words, registers and constants keep the tails clean: a word goes with its line to the first free place, and a new constant to the first free entry, with its text behind those in use.
 -- What rests on something that a must-fail edit breaks stands in proofs/Emission.antt.
-use Rattle.std.specs.Prelude.{ℕ, ◌+◌, ◌-◌, ◌≤◌, ◌<◌, max, Bool, ◌&&◌, ◌≡◌, List, length, leb, ltb}
+use Rattle.std.specs.Prelude.{ℕ, ◌+◌, ◌-◌, ◌≤◌, ◌<◌, max, Bool, ◌&&◌, ◌≡◌, List, length, leb, ltb, Some, None, Ok, Err}
 use Rattle.std.proofs.Math.Bool.{true, false}
 use Rattle.std.proofs.Math.Path.{refl}
 use Rattle.std.proofs.Common.{◌∙◌, arith, length-set, get_or-set_other}
@@ -9,16 +9,12 @@ use Rattle.refusals.specs.declared.Refusal.TheVariants.{Registers, Words}
 use Rattle.instructions.specs.Limits.{no_reg, max_words, max_stack, bit_rk}
 use Rattle.instructions.specs.Word.{b_of, set_b_of}
 use Rattle.constants.specs.Entry.{part, holds}
-use Rattle.constants.specs.Table.{added as added_to, append, stored_text, out, find, full}
+use Rattle.constants.specs.Table.{added as added_to, append, stored_text, out, find, full, Found, Added}
 use Rattle.constants.specs.Laws.{added_there, added_full, added_new}
 use Rattle.constants.specs.Distinct.{Kept, kept_added}
 use Rattle.constants.specs.declared.Table.{Table}
 use Rattle.constants.specs.declared.Val.{Val}
 use Rattle.constants.specs.declared.Val.TheVariants as val
-use Rattle.constants.specs.declared.Found.{Found}
-use Rattle.constants.specs.declared.Found.TheVariants.{At, Nothing}
-use Rattle.constants.specs.declared.Added.{Added}
-use Rattle.constants.specs.declared.Added.TheVariants as added
 use Rattle.model.specs.declared.State.{State}
 use Rattle.model.specs.Steps.{Buffers, done, refused, change, change_words}
 use Rattle.model.specs.Jumps.{word, remove_values, patch_list_aux}
@@ -37,8 +33,8 @@ pub record Grew (t t' : Table) : Type 0 where
   pub used : t.used ≤ t'.used
 
 abbrev Grows : Table → Added → Type 0
-Grows t (added.At i t') = Grew t t'
-Grows t (added.Refused k) = Unit {0}
+Grows t (Ok (i, t')) = Grew t t'
+Grows t (Err k) = Unit {0}
 
 grew_new : (t : Table) (n : ℕ) → Grew t (record { count = t.count + 1; used = t.used + n })
 grew_new t n = record { count = omega arith; used = omega arith }
@@ -58,18 +54,18 @@ grows_append chunk t (val.Str s n) ks vs pool = grows_text (leb (t.used + length
 pub grows_added : (chunk : List ℕ) (t : Table) (v : Val) (ks vs pool : List ℕ) → Grows t (added_to chunk t v ks vs pool).answer
 grows_added chunk t v ks vs pool = search (find (holds pool chunk v) t.count ks vs) refl
   where
-    room : find (holds pool chunk v) t.count ks vs ≡ Nothing → (b : Bool) → full t.count ks vs ≡ b → Grows t (added_to chunk t v ks vs pool).answer
+    room : find (holds pool chunk v) t.count ks vs ≡ None → (b : Bool) → full t.count ks vs ≡ b → Grows t (added_to chunk t v ks vs pool).answer
     room e true f = rw (added_full chunk t v ks vs pool e refl f refl) tt
     room e false f = rw (added_new chunk t v ks vs pool e refl f refl refl) (grows_append chunk t v ks vs pool)
 
     search : (f : Found) → find (holds pool chunk v) t.count ks vs ≡ f → Grows t (added_to chunk t v ks vs pool).answer
-    search (At i) e = rw (added_there chunk t v ks vs pool e refl) (record { count = omega arith; used = omega arith })
-    search Nothing e = room e (full t.count ks vs) refl
+    search (Some i) e = rw (added_there chunk t v ks vs pool e refl) (record { count = omega arith; used = omega arith })
+    search None e = room e (full t.count ks vs) refl
 
 module _ {z : Sizes} where
   pub stored_leaves : (chunk : List ℕ) (v : Val) (s : State) (m : Buffers) (r : Added) (ks vs pool : List ℕ) → added_to chunk s.table v m.kinds m.values m.pool ≡ out r ks vs pool → Grows s.table r → Clean z s m → Leaves z (stored_in s m (out r ks vs pool))
-  stored_leaves chunk v s m (added.Refused k) ks vs pool e g c = none k _
-  stored_leaves chunk v s m (added.At i t) ks vs pool e g c =
+  stored_leaves chunk v s m (Err k) ks vs pool e g c = none k _
+  stored_leaves chunk v s m (Ok (i, t)) ks vs pool e g c =
       let k : Kept m.kinds m.values m.pool t ks vs pool = kept_added chunk s.table v m.kinds m.values m.pool e in
       clean i _ _ (record {
         code_length = c.code_length;

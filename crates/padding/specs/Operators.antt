@@ -1,9 +1,8 @@
 -- Operators keep the tails clean, before and after their right operand: part by part.
 -- What rests on something that a must-fail edit breaks stands in proofs/Operators.antt.
-use Rattle.std.specs.Prelude.{Bool, ltb}
+use Rattle.folding.specs.Numeral.{Fold}
+use Rattle.std.specs.Prelude.{Bool, ltb, Some, None}
 use Rattle.opcodes.specs.declared.OpCode.{OpCode}
-use Rattle.folding.specs.declared.Fold.{Fold}
-use Rattle.folding.specs.declared.Fold.TheVariants.{Folded, Kept}
 use Rattle.model.specs.declared.ExprContext.{ExprContext}
 use Rattle.model.specs.Steps.{Step}
 use Rattle.model.specs.Discharge.{rk}
@@ -17,8 +16,8 @@ module _ {z : Sizes} where
   -- ---- arithmetic
 
   pub keeps_unless_folded : (f : Fold) (e : ExprContext) {x : Step ExprContext} → Keeps z x → Keeps z (unless_folded f e x)
-  keeps_unless_folded (Folded n) e k = keeps_return _
-  keeps_unless_folded Kept e k = k
+  keeps_unless_folded (Some n) e k = keeps_return _
+  keeps_unless_folded None e k = k
 
   keeps_free_in_turn : (a b : ExprContext) → Keeps z (free_in_turn a b)
   unfolding free_in_turn

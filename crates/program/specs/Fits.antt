@@ -1,16 +1,15 @@
 -- No list of `weavelist` is longer than its page, so nothing of one is ever lost: a number has at most 20 digits, and there are no more lines than words and constants lent. Assumes nothing but that the input is bytes.
-use Rattle.std.specs.Prelude.{ℕ, zero, suc, ◌+◌, ◌*◌, ◌/◌, ◌%◌, ◌≤◌, Bool, true, false, ◌≡◌, refl, List, [], ◌∷◌, ◌++◌, length, take, leb, ltb}
+use Rattle.std.specs.Prelude.{ℕ, zero, suc, ◌+◌, ◌*◌, ◌/◌, ◌%◌, ◌≤◌, Bool, true, false, ◌≡◌, refl, List, [], ◌∷◌, ◌++◌, length, take, leb, ltb, Some}
 use Rattle.std.proofs.Common.{sym, ap, ◌∙◌, arith, length-append, length-take, le-leb}
 use Rattle.refusals.specs.Number.{number_of}
 use Rattle.refusals.specs.declared.Refusal.TheVariants as refusal
 use Rattle.buffers.specs.Pad.{pad}
-use Rattle.model.specs.declared.Lowered.{Lowered}
-use Rattle.model.specs.declared.Lowered.TheVariants as answer
+use Rattle.model.specs.Lowered.{Lowered}
+use Rattle.std.specs.Prelude as answer
 use Rattle.model.specs.Steps.{Buffers}
 use Rattle.model.specs.Claims.{Padded, Bytes}
 use Rattle.model.specs.Lowering.{lowered}
 use Rattle.padding.proofs.Padded.{padded}
-use Rattle.listing.specs.declared.Listed.TheVariants as listed
 use Rattle.listing.specs.Page.{Sheet, sheet, written}
 use Rattle.listing.specs.Listing.{decimal, glyph, hex, word_line, constant_line, word_lines, constant_lines, refusal_line, listing}
 use Rattle.model.specs.Rows.{weavelist as lent}
@@ -65,8 +64,8 @@ taken : (n : ℕ) (l : List ℕ) → length (take n l) ≤ length l
 taken n l = omega (arith, length-take n l)
 
 a_list : (input : List ℕ) (a : Lowered) (m : Buffers) (s : List ℕ) → Padded lent input a m s → length (listing a m.code m.lines m.kinds m.values) ≤ max_page
-a_list input (answer.Refused k) m s p = let h = refused (number_of k) in omega (arith, h)
-a_list input (answer.Done k) m s p =
+a_list input (answer.Err k) m s p = let h = refused (number_of k) in omega (arith, h)
+a_list input (answer.Ok k) m s p =
     let c = all_words 0 (take k.words m.code) (take k.words m.lines) in
     let d = all_constants 0 (take k.constants m.kinds) (take k.constants m.values) in
     let few : length (take k.words m.code) ≤ 8192 = omega (arith, taken k.words m.code, p.code.long) in
@@ -83,7 +82,7 @@ fits input bytes = go (leb (length input) max_input)
 
 -- ---- so a list is written whole
 
-written_within : (n : ℕ) (t : List ℕ) → length t ≤ n → written n t ≡ sheet (listed.Written (length t)) (pad n t)
+written_within : (n : ℕ) (t : List ℕ) → length t ≤ n → written n t ≡ sheet (Some (length t)) (pad n t)
 unfolding written
 written_within n t h = rw (written, le-leb (length t) n h) refl
 

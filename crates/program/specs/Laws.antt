@@ -1,15 +1,13 @@
 -- The program's list, by the code's tests. Assumes nothing.
-use Rattle.std.specs.Prelude.{ℕ, ◌≤◌, ◌<◌, Bool, true, false, ◌≡◌, refl, List, length, leb}
+use Rattle.std.specs.Prelude.{ℕ, ◌≤◌, ◌<◌, Bool, true, false, ◌≡◌, refl, List, length, leb, Option, Some, None}
 use Rattle.std.proofs.Common.{sym, ap, ◌∙◌, arith}
 use borrow.Author.Tests.{le-leb, lt-leb, leb-true}
 use Rattle.refusals.specs.Number.{number_of}
 use Rattle.refusals.specs.declared.Refusal.TheVariants as refusal
 use Rattle.buffers.specs.Pad.{zeros, pad}
-use Rattle.model.specs.declared.Lowered.{Lowered}
+use Rattle.model.specs.Lowered.{Lowered}
 use Rattle.model.specs.Steps.{Buffers}
 use Rattle.model.specs.Lowering.{Sizes, Out, out, lowered}
-use Rattle.listing.specs.declared.Listed.{Listed}
-use Rattle.listing.specs.declared.Listed.TheVariants as listed
 use Rattle.listing.specs.Listing.{refusal_line, listing}
 use Rattle.listing.specs.Page.{Sheet, sheet, written}
 use Rattle.model.specs.Rows.{weavelist as lent}
@@ -31,14 +29,14 @@ pub are_lent : {c l k v p s : ℕ} → c ≡ 8192 → l ≡ 8192 → k ≡ 2048 
 are_lent a b c d e f = rw (a, b, c, d, e, f) refl
 
 -- what was written is no longer than the buffer
-pub written_fits : (n : ℕ) (t : List ℕ) {a : Listed} {o : List ℕ} {k : ℕ} → written n t ≡ sheet a o → a ≡ listed.Written k → k ≤ n
+pub written_fits : (n : ℕ) (t : List ℕ) {a : Option ℕ} {o : List ℕ} {k : ℕ} → written n t ≡ sheet a o → a ≡ Some k → k ≤ n
 unfolding written
 written_fits n t {a} {o} {k} e f = go (leb (length t) n) refl (ap (λ y. y.answer) e ∙ f)
   where
-    go : (b : Bool) → leb (length t) n ≡ b → (elim b as (λ (_ : Bool). Sheet) [ true ↦ sheet (listed.Written (length t)) (pad n t) | false ↦ sheet listed.Short (zeros n) ]).answer ≡ listed.Written k → k ≤ n
+    go : (b : Bool) → leb (length t) n ≡ b → (elim b as (λ (_ : Bool). Sheet) [ true ↦ sheet (Some (length t)) (pad n t) | false ↦ sheet None (zeros n) ]).answer ≡ Some k → k ≤ n
     go true b w = let u : length t ≡ k = cc in omega (arith, u, leb-true (length t) n b)
     go false b w = absurd (let u : ◌≡◌ {A = ℕ} 0 1 = cc in omega arith)
 
 -- an answer that was found to be one of its kinds
-pub listed_told : {x : Sheet} {a b : Listed} {o : List ℕ} → x ≡ sheet a o → a ≡ b → x ≡ sheet b o
+pub listed_told : {x : Sheet} {a b : Option ℕ} {o : List ℕ} → x ≡ sheet a o → a ≡ b → x ≡ sheet b o
 listed_told {o = o} e f = e ∙ ap (λ a. sheet a o) f

@@ -1,11 +1,10 @@
 -- What the program `weavelist` prints, from what it reads (document 01, "The weave list, and cases"). Assumes nothing.
-use Rattle.std.specs.Prelude.{ℕ, true, false, List, length, leb}
+use Rattle.std.specs.Prelude.{ℕ, true, false, List, length, leb, Some}
 use Rattle.refusals.specs.Number.{number_of}
 use Rattle.refusals.specs.declared.Refusal.TheVariants as refusal
 use Rattle.buffers.specs.Pad.{pad}
 use Rattle.model.specs.Lowering.{Out, lowered}
 use Rattle.model.specs.Rows.{weavelist as lent}
-use Rattle.listing.specs.declared.Listed.TheVariants as listed
 use Rattle.listing.specs.Listing.{refusal_line, listing}
 use Rattle.listing.specs.Page.{Sheet, sheet}
 
@@ -30,4 +29,4 @@ max_page = 589824
 
 -- a list written whole: its length, and the page with the list and then zeros
 abbrev pub whole : List ℕ → Sheet
-whole t = sheet (listed.Written (length t)) (pad max_page t)
+whole t = sheet (Some (length t)) (pad max_page t)

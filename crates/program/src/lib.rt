@@ -8,9 +8,8 @@ ghost use Rattle.model.specs.Lowering.{lowered};
 ghost use Rattle.listing.specs.Page.{sheet, written};
 ghost use Rattle.program.specs.Weavelist.{list_of, weavelist as weavelist_of, whole};
 
-use listing::{Listed, listing};
+use listing::listing;
 use lowering::lower;
-use model::Lowered;
 use refusals::Refusal;
 
 // The longest input of `weavelist`, in bytes.
@@ -18,39 +17,15 @@ pub const MAX_INPUT: usize = 65536;
 
 // ---- what the program lends: of a fresh buffer only the length is told, since whoever is lent one clears it
 
-fn fresh_words() -> [u32; 8192]
-    ensures { 8192 ≡ length result }
+fn fresh<T: Copy, const N: usize>(zero: T) -> [T; N]
+    ensures { N ≡ length result }
 {
-    [0; 8192]
-}
-
-fn fresh_kinds() -> [u8; 2048]
-    ensures { 2048 ≡ length result }
-{
-    [0; 2048]
-}
-
-fn fresh_values() -> [u64; 2048]
-    ensures { 2048 ≡ length result }
-{
-    [0; 2048]
-}
-
-fn fresh_pool() -> [u8; 32768]
-    ensures { 32768 ≡ length result }
-{
-    [0; 32768]
-}
-
-fn fresh_scratch() -> [u32; 16384]
-    ensures { 16384 ≡ length result }
-{
-    [0; 16384]
+    [zero; N]
 }
 
 // ---- listing
 
-// The list of a chunk's lowering in these buffers.
+// The list of a chunk's lowering in these buffers; no struct of them, as `lower` and `listing` take slices and it would be taken apart here at once.
 fn list_in(
     chunk: &[u8],
     code: &mut [u32],
@@ -60,7 +35,7 @@ fn list_in(
     pool: &mut [u8],
     scratch: &mut [u32],
     out: &mut [u8],
-) -> Listed
+) -> Option<usize>
     ensures { written (length out.old) (list_of (lowered (sizes (bufs code.old lines.old kinds.old values.old pool.old) (length scratch.old)) chunk.now)) ≡ sheet result out.new }
 {
     let answer = lower(chunk, code, lines, kinds, values, pool, scratch);
@@ -68,18 +43,19 @@ fn list_in(
 }
 
 // The list of an input of `weavelist`.
-pub fn list_bytes(input: &[u8], out: &mut [u8]) -> Listed
+#[tactic(auto, using(crate::specs::Laws::too_long, crate::specs::Laws::within, crate::specs::Laws::are_lent))]
+pub fn list_bytes(input: &[u8], out: &mut [u8]) -> Option<usize>
     ensures { written (length out.old) (weavelist_of input.now) ≡ sheet result out.new }
 {
     if input.len() > MAX_INPUT {
-        return listing(Lowered::Refused(Refusal::TooLong), &[], &[], &[], &[], out);
+        return listing(Err(Refusal::TooLong), &[], &[], &[], &[], out);
     }
-    let mut code = fresh_words();
-    let mut lines = fresh_words();
-    let mut kinds = fresh_kinds();
-    let mut values = fresh_values();
-    let mut pool = fresh_pool();
-    let mut scratch = fresh_scratch();
+    let mut code: [u32; 8192] = fresh(0);
+    let mut lines: [u32; 8192] = fresh(0);
+    let mut kinds: [u8; 2048] = fresh(0);
+    let mut values: [u64; 2048] = fresh(0);
+    let mut pool: [u8; 32768] = fresh(0);
+    let mut scratch: [u32; 16384] = fresh(0);
     list_in(
         input,
         &mut code,
@@ -96,7 +72,7 @@ pub fn list_bytes(input: &[u8], out: &mut [u8]) -> Listed
 #[derive(Clone, Copy)]
 pub struct InputListed {
     pub read: usize,
-    pub listed: Listed,
+    pub listed: Option<usize>,
 }
 
 // Reads what fits the input's buffer, lists it on the page and writes the list. The page and the answer are determined by the bytes read; which these are, and that
@@ -106,16 +82,13 @@ fn list_input(input: &mut [u8], page: &mut [u8]) -> InputListed
 {
     let n = io::read_full(0, input);
     let listed = list_bytes(&input[..n], page);
-    match listed {
-        Listed::Written(k) => {
-            io::write_all(1, &page[..k]);
-        }
-        Listed::Short => {}
+    if let Some(k) = listed {
+        io::write_all(1, &page[..k]);
     }
     InputListed { read: n, listed }
 }
 
-// The program: its input's buffer has one byte more than is allowed. No list is longer than its page (`fits`, specs/Fits.antt), so the answer is never `Short`
+// The program: its input's buffer has one byte more than is allowed. No list is longer than its page (`fits`, specs/Fits.antt), so the answer is never `None`
 // and the list stands on the page whole.
 pub fn weavelist(input: &mut [u8; 65537], page: &mut [u8; 589824]) -> InputListed
     ensures { (whole (weavelist_of (take result.read input.new)) ≡ sheet result.listed page.new) × (result.read ≤ 65537) }

@@ -4,7 +4,7 @@
 ghost use Rattle.std.specs.Prelude.{◌≡◌};
 ghost use Rattle.refusals.specs.Number.{number_of};
 
-#[derive(Clone, Copy)]
+#[derive(Clone, Copy, PartialEq, Eq, Debug)]
 pub enum Refusal {
     TooLong,
     Missing,
@@ -34,12 +34,12 @@ pub enum Refusal {
     Rule,
 }
 
-impl Refusal {
-    // The number that stands for this refusal in what a caller sees.
-    pub fn number(self) -> u32
-        ensures { number_of self ≡ result }
-    {
-        match self {
+// The number that stands for a refusal in what a caller sees.
+impl From<Refusal> for u32 {
+    ghost from_gives = { λ k n. number_of k ≡ n };
+
+    fn from(k: Refusal) -> u32 {
+        match k {
             Refusal::TooLong => 1,
             Refusal::Missing => 2,
             Refusal::Map => 3,

@@ -1,19 +1,15 @@
 -- A constant added to the model's table, with words, lists and registers as they were; and the tests whether a constant is near, a numeral far, the table roomy, which are labelled code's.
-use Rattle.std.specs.Prelude.{ℕ, Bool, true, false, not, ◌≡◌, List, ltb}
+use Rattle.std.specs.Prelude.{ℕ, Bool, true, false, not, ◌≡◌, List, ltb, Some, None, Ok, Err}
 use Rattle.std.proofs.Math.Path.{refl, ap}
 use Rattle.std.proofs.Common.{sym, ◌∙◌, subst, arith, leb-true, leb-false, lt-ltb, le-ltb}
 use Rattle.std.proofs.Math.Dec.{leb}
 use Rattle.instructions.specs.Limits.{max_index_rk}
 use Rattle.constants.specs.Entry.{Constant, constant_of, holds}
-use Rattle.constants.specs.Table.{Out, find, added as added_to}
+use Rattle.constants.specs.Table.{Out, find, added as added_to, Found, Added}
 use Rattle.constants.specs.Laws.{late_added}
 use Rattle.constants.specs.Distinct.{Short}
 use Rattle.constants.specs.declared.Table.{Table}
 use Rattle.constants.specs.declared.Val.{Val}
-use Rattle.constants.specs.declared.Found.{Found}
-use Rattle.constants.specs.declared.Found.TheVariants.{At, Nothing}
-use Rattle.constants.specs.declared.Added.{Added}
-use Rattle.constants.specs.declared.Added.TheVariants as answer
 use Rattle.model.specs.declared.State.{State}
 use Rattle.model.specs.Steps.{Buffers}
 use Rattle.model.specs.Emission.{with_table, keep, add_constant}
@@ -67,8 +63,8 @@ module _ (Γ : Env) (s : State) (m : Buffers) {t : List Constant} (tab : Tabled 
       }
 
       go : (a : Added) → o.answer ≡ a → Ends (keep o.answer s m₁) (λ i s' m'. (i ≡ place k t) × ((s'.frame ≡ s.frame) × ((m'.code ≡ m.code) × Adds Γ s m t k s' m')))
-      go (answer.Refused r) e = rw e (refuses r m₁ (late_added chunk s.table v m.kinds m.values m.pool r e) refl)
-      go (answer.At i b) e =
+      go (Err r) e = rw e (refuses r m₁ (late_added chunk s.table v m.kinds m.values m.pool r e) refl)
+      go (Ok (i, b)) e =
           let q = tabled_added tab chunk v short i b o.kinds o.values o.pool (rw e refl) in
           rw e (gives i (with_table b s) m₁ refl (q.0, (refl, (refl, moved b q.1))))
 
@@ -100,5 +96,5 @@ unfolding is_near
 far_is {t = t} {b = b} {ks = ks} {ws = ws} {pool = pool} tab chunk v = go (find (holds pool chunk v) b.count ks ws) refl
   where
     go : (r : Found) → find (holds pool chunk v) b.count ks ws ≡ r → is_far r b.count ≡ not (is_near (constant_of chunk v) t)
-    go (At i) e = rw (found_place tab chunk v i e).0 (not_leb (place (constant_of chunk v) t) max_index_rk)
-    go Nothing e = rw (tab.count ∙ sym (found_none tab chunk v e)) (not_leb (place (constant_of chunk v) t) max_index_rk)
+    go (Some i) e = rw (found_place tab chunk v i e).0 (not_leb (place (constant_of chunk v) t) max_index_rk)
+    go None e = rw (tab.count ∙ sym (found_none tab chunk v e)) (not_leb (place (constant_of chunk v) t) max_index_rk)

@@ -1,5 +1,6 @@
 -- `code_arith` stands for `ari_join`: numerals fold on both sides alike; else the operands go to RK, the right one first, are freed, and the word is emitted that wants its register.
-use Rattle.std.specs.Prelude.{ℕ, ◌+◌, ◌%◌, ◌≤◌, Bool, true, false, ◌&&◌, ◌≡◌, eqb}
+use Rattle.folding.specs.Numeral.{Fold}
+use Rattle.std.specs.Prelude.{ℕ, ◌+◌, ◌%◌, ◌≤◌, Bool, true, false, ◌&&◌, ◌≡◌, eqb, Some, None}
 use Rattle.std.proofs.Math.Path.{refl, sym}
 use Rattle.std.proofs.Common.{ap, ◌∙◌, subst, arith}
 use Rattle.std.proofs.Math.Option.{Option, some, none}
@@ -9,8 +10,6 @@ use Rattle.folding.specs.Folding.{fold_of}
 use Rattle.folding.proofs.Laws.{fold_bits}
 use Rattle.folding.specs.declared.Numeral.{Numeral as Numeral'}
 use Rattle.folding.specs.declared.Arith.{Arith}
-use Rattle.folding.specs.declared.Fold.{Fold}
-use Rattle.folding.specs.declared.Fold.TheVariants.{Folded, Kept}
 use Rattle.constants.specs.Entry.{Constant, number}
 use Rattle.model.specs.Values.{folds}
 use Rattle.model.specs.declared.ExprKind.TheVariants as kind
@@ -147,8 +146,8 @@ module _ (Γ : Env) (s : State) (m : Buffers) (e₁ e₂ : ExprContext) (f g : �
 
 -- ---- `code_arith`
 
-folded : (o : Arith) (e₁ e₂ : ExprContext) (t : Bool) → (is_numeral e₁ && is_numeral e₂) ≡ t → const_fold o e₁ e₂ ≡ elim t [ true ↦ fold_of o e₁.nval e₂.nval | false ↦ Kept ]
-folded o e₁ e₂ t z = ap (λ (b : Bool). elim b [ true ↦ fold_of o e₁.nval e₂.nval | false ↦ Kept ]) z
+folded : (o : Arith) (e₁ e₂ : ExprContext) (t : Bool) → (is_numeral e₁ && is_numeral e₂) ≡ t → const_fold o e₁ e₂ ≡ elim t [ true ↦ fold_of o e₁.nval e₂.nval | false ↦ None ]
+folded o e₁ e₂ t z = ap (λ (b : Bool). elim b [ true ↦ fold_of o e₁.nval e₂.nval | false ↦ None ]) z
 
 -- a numeral tested on both sides
 fold_is : (o : Arith) (e₁ e₂ : ExprContext) (n k : Option ℕ) → Num e₁ n → Num e₂ k → const_fold o e₁ e₂ ≡ folds o n k
@@ -187,7 +186,7 @@ numeral_own active g q v e o = num_own active g v (hit false q.de.tl q.de.fl q.s
 
 module _ (Γ : Env) (s : State) (m : Buffers) (e₁ e₂ : ExprContext) (f g : ℕ) (n : Option ℕ) (x : RkS) (p : Pair) (h : Sound Γ g p) (d : SimD Γ s m e₂ p) (l : Left s e₁ n x p.st) (k : LeftTakes Γ.active f g n x) (la : Γ.active ≤ f) (o : Arith) (two : Binary o) where
   -- the word
-  emitted : Ends (emit_arith o e₁ e₂ s m) (λ e' s' m'. SimD Γ s' m' e' (ari_join Kept o f n x (dv p)))
+  emitted : Ends (emit_arith o e₁ e₂ s m) (λ e' s' m'. SimD Γ s' m' e' (ari_join None o f n x (dv p)))
   unfolding emit_arith ari_join right_first flush
   emitted = both_right_first Γ s m e₁ e₂ f g n x p h d l k la (λ b c. free_both b c >> (emit (abc_of (arith_op o) 0 (rk b) (rk c)) >>= (λ pc. return (with_kind kind.Relocable pc b)))) _ (λ b c s₄ m₄ w.
       rw (w.freed, then_done {A = Unit {0}} tt (with_free f s₄) m₄ (λ _. emit (abc_of (arith_op o) 0 (rk b) (rk c)) >>= (λ pc. return (with_kind kind.Relocable pc b))))
@@ -206,14 +205,14 @@ module _ (Γ : Env) (s : State) (m : Buffers) (e₁ e₂ : ExprContext) (f g : �
       under = flush_u r.st.nxt (omega (arith, on.up, h.some)) r.st on.old
 
   -- folded
-  done_now : (z : Numeral') → folds o n (numeral (dv p)) ≡ Folded z → Ends (return (with_number z e₁) s m) (λ e' s' m'. SimD Γ s' m' e' (ari_join (Folded z) o f n x (dv p)))
+  done_now : (z : Numeral') → folds o n (numeral (dv p)) ≡ Some z → Ends (return (with_number z e₁) s m) (λ e' s' m'. SimD Γ s' m' e' (ari_join (Some z) o f n x (dv p)))
   unfolding ari_join
   done_now z eq = go n (numeral (dv p)) l k (numeral_is p d) (λ v y. numeral_own Γ.active g (dv p) v y (sound_dv p h).own) eq
     where
       under : Under (dv p).st.nxt (dv p).st.code
       under = (dv_new Γ.n h.some p h.new).on.old
 
-      go : (n w : Option ℕ) → Left s e₁ n x p.st → LeftTakes Γ.active f g n x → NumIs Γ s m e₂ w (dv p).st → ((v : ℕ) → w ≡ some v → (dv p).st.free ≡ g) → folds o n w ≡ Folded z →
+      go : (n w : Option ℕ) → Left s e₁ n x p.st → LeftTakes Γ.active f g n x → NumIs Γ s m e₂ w (dv p).st → ((v : ℕ) → w ≡ some v → (dv p).st.free ≡ g) → folds o n w ≡ Some z →
           Ends (return (with_number z e₁) s m) (λ e' s' m'. SimD Γ s' m' e' (fresh (kd (kc (number z.bits))) f (dv p).st))
       go none none l k i fr eq = absurd (let y : ◌≡◌ {A = ℕ} 0 1 = cc in omega arith)
       go none (some v) l k i fr eq = absurd (let y : ◌≡◌ {A = ℕ} 0 1 = cc in omega arith)
@@ -227,5 +226,5 @@ module _ (Γ : Env) (s : State) (m : Buffers) (e₁ e₂ : ExprContext) (f g : �
   sim_arith = rw (fold_is o e₁ e₂ n (numeral (dv p)) (left_num s e₁ n x p.st l) (desc_num p d)) (go (folds o n (numeral (dv p))) refl)
     where
       go : (w : Fold) → folds o n (numeral (dv p)) ≡ w → Ends (unless_folded w e₁ (emit_arith o e₁ e₂) s m) (λ e' s' m'. SimD Γ s' m' e' (ari_join w o f n x (dv p)))
-      go (Folded z) eq = done_now z eq
-      go Kept eq = emitted
+      go (Some z) eq = done_now z eq
+      go None eq = emitted

@@ -1,20 +1,16 @@
 -- Adding a constant to the model's table is including it in the list: the search finds its place, or there is none and it goes to the end. So near and far are the same on both sides.
 -- It holds because the entries are the list's, none twice.
-use Rattle.std.specs.Prelude.{ℕ, ◌+◌, ◌*◌, ◌≤◌, ◌<◌, ◌^◌, Bool, true, false, ◌≡◌, refl, List, [], ◌∷◌, ◌++◌, length, get_or, ltb}
+use Rattle.std.specs.Prelude.{ℕ, ◌+◌, ◌*◌, ◌≤◌, ◌<◌, ◌^◌, Bool, true, false, ◌≡◌, refl, List, [], ◌∷◌, ◌++◌, length, get_or, ltb, Some, None, Ok, Err}
 use Rattle.std.proofs.Common.{sym, ap, ◌∙◌, subst, arith, length-append, ltb-true, ltb-false}
 use Rattle.std.proofs.Math.Option.{some}
 use Rattle.std.proofs.Math.ListN.{get_or-append}
 use Rattle.std.proofs.Math.Seq.{get_or-append_seam}
 use Rattle.constants.specs.Entry.{Constant, nil, constant_of, holds, constant_at}
 use Rattle.constants.specs.Laws.{holds_true, holds_false, find_at, find_nothing, added_there}
-use Rattle.constants.specs.Table.{Out, out, find, added as added_to}
+use Rattle.constants.specs.Table.{Out, out, find, added as added_to, Found, Added}
 use Rattle.constants.specs.Distinct.{Short, Grew, good_added, good_empty}
 use Rattle.constants.specs.declared.Table.{Table}
 use Rattle.constants.specs.declared.Val.{Val}
-use Rattle.constants.specs.declared.Found.{Found}
-use Rattle.constants.specs.declared.Found.TheVariants.{At, Nothing}
-use Rattle.constants.specs.declared.Added.{Added}
-use Rattle.constants.specs.declared.Added.TheVariants as answer
 use Rattle.labelled.specs.Table.{place, include}
 use Rattle.labelled.specs.Places.{Listed, place_at_most, entry_there, none_before, include_there, include_new}
 use Rattle.simulation.specs.Tabled.{Tabled}
@@ -57,11 +53,11 @@ module _ {t : List Constant} {b : Table} {ks ws pool : List ℕ} (h : Tabled t b
           least false y = omega (arith, ltb-false i (place c t) y, ltb-false (place c t) i z)
 
   -- what the search finds is the constant's place
-  pub found_place : (i : ℕ) → f ≡ At i → (i ≡ place c t) × Listed c t
+  pub found_place : (i : ℕ) → f ≡ Some i → (i ≡ place c t) × Listed c t
   found_place i e = let q = find_at (holds pool chunk v) b.count ks ws i e in
       entry_place i (omega (arith, q.below, h.count)) (holds_true pool chunk v (get_or ks i 0) (get_or ws i 0) q.meets)
 
-  pub found_none : f ≡ Nothing → place c t ≡ length t
+  pub found_none : f ≡ None → place c t ≡ length t
   found_none e = go (ltb (place c t) (length t)) refl
     where
       go : (x : Bool) → ltb (place c t) (length t) ≡ x → place c t ≡ length t
@@ -78,10 +74,10 @@ module _ {t : List Constant} {b : Table} {ks ws pool : List ℕ} (h : Tabled t b
   AddedAs o = AddedIs o.answer o.kinds o.values o.pool
     where
       AddedIs : Added → List ℕ → List ℕ → List ℕ → Type 0
-      AddedIs (answer.At i b') ks' ws' pool' = (i ≡ place c t) × Tabled (include c t) b' ks' ws' pool'
-      AddedIs (answer.Refused k) ks' ws' pool' = Unit {0}
+      AddedIs (Ok (i, b')) ks' ws' pool' = (i ≡ place c t) × Tabled (include c t) b' ks' ws' pool'
+      AddedIs (Err k) ks' ws' pool' = Unit {0}
 
-  pub tabled_added : Short chunk v → (i : ℕ) (b' : Table) (ks' ws' pool' : List ℕ) → added_to chunk b v ks ws pool ≡ out (answer.At i b') ks' ws' pool' → (i ≡ place c t) × Tabled (include c t) b' ks' ws' pool'
+  pub tabled_added : Short chunk v → (i : ℕ) (b' : Table) (ks' ws' pool' : List ℕ) → added_to chunk b v ks ws pool ≡ out (Ok (i, b')) ks' ws' pool' → (i ≡ place c t) × Tabled (include c t) b' ks' ws' pool'
   tabled_added short i b' ks' ws' pool' e = search f refl
     where
       new : place c t ≡ length t → Grew chunk b v ks ws pool i b' ks' ws' pool' → (i ≡ place c t) × Tabled (include c t) b' ks' ws' pool'
@@ -119,8 +115,8 @@ module _ {t : List Constant} {b : Table} {ks ws pool : List ℕ} (h : Tabled t b
               new_one ∙ ap some (sym last)
 
       search : (r : Found) → f ≡ r → (i ≡ place c t) × Tabled (include c t) b' ks' ws' pool'
-      search (At j) z =
+      search (Some j) z =
           let q = found_place j z in
-          let y : out (answer.At j b) ks ws pool ≡ out (answer.At i b') ks' ws' pool' = sym (added_there chunk b v ks ws pool z refl) ∙ e in
+          let y : out (Ok (j, b)) ks ws pool ≡ out (Ok (i, b')) ks' ws' pool' = sym (added_there chunk b v ks ws pool z refl) ∙ e in
           subst (λ (o : Out). AddedAs o) y (q.0, rw (include_there c t q.1) h)
-      search Nothing z = new (found_none z) (good_added chunk b v ks ws pool e h.good few_bytes short)
+      search None z = new (found_none z) (good_added chunk b v ks ws pool e h.good few_bytes short)

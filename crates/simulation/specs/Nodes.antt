@@ -2,7 +2,7 @@
 use Prim.Native.Nat.{ℕ, zero, suc, ◌+◌, ◌-◌, ◌≤◌}
 use Rattle.std.proofs.Math.Path.{◌≡◌, refl, ap, subst}
 use Rattle.std.proofs.Common.{sym, ◌∙◌}
-use Rattle.std.specs.Prelude.{List, length}
+use Rattle.std.specs.Prelude.{List, length, Ok}
 use native.Mathlib.Omega.{arith}
 use Rattle.cursor.specs.Fields.{bytes_of}
 use Rattle.cursor.specs.declared.Text.{Text}
@@ -17,7 +17,6 @@ use Rattle.ast.specs.declared.Many.TheVariants as many
 use Rattle.ast.specs.declared.Head.{Head}
 use Rattle.ast.specs.declared.Head.TheVariants as head
 use Rattle.ast.specs.declared.Node.{Node}
-use Rattle.nodes.specs.declared.node.NodeRead.TheVariants as read
 use Rattle.chunk.specs.Ast.{Span, Expr, leaf as leaf_node, one as one_node, two as two_node, many as many_node, Exprs, none as no_more, more}
 use Rattle.chunk.specs.Headers.{names_at}
 use Rattle.chunk.specs.Form.{Parsed, parsed, exprs_at, rest, expr_at, names_of, max_nesting}
@@ -210,8 +209,8 @@ module _ (chunk : List ℕ) (hd : Header) (names : List Text) (nm : names ≡ na
     expr_at_lem (suc left) a at line at' line' e Γ s m σ act one on l h =
         let v = node_is (node_at chunk hd.varargs at line) _ a at' line' e in
         let n = v.0 in
-        let here : node_at chunk hd.varargs s.at s.line ≡ read.Node n = rw (h.sim.at, h.sim.line) v.1.0 in
+        let here : node_at chunk hd.varargs s.at s.line ≡ Ok n = rw (h.sim.at, h.sim.line) v.1.0 in
         rw (expr_is chunk hd left s m n here) (head_at (compile_expr chunk hd left) (expr_at chunk hd.varargs left) (expr_at_lem left) (record { line = n.line; place = at; nesting = max_nesting - left }) n.next n.line Γ (with_place n.next n.line s) m σ act one on l (sim_place n.next n.line h) n.head a at' line' (short v.0 v.1.0) v.1.1)
       where
-        short : (n : Node) → node_at chunk hd.varargs at line ≡ read.Node n → ShortHead chunk n.head
+        short : (n : Node) → node_at chunk hd.varargs at line ≡ Ok n → ShortHead chunk n.head
         short n z = subst (ShortNode chunk) z (short_node chunk bytes hd.varargs at line)

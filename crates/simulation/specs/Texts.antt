@@ -1,13 +1,11 @@
 -- Texts of a node are short: a length of two bytes is below 65,536. By the cases of reading a node, none of which changes a length.
-use Rattle.std.specs.Prelude.{ℕ, zero, suc, ◌+◌, ◌≤◌, Bool, true, false, List, [], ◌∷◌, length, take, drop}
+use Rattle.std.specs.Prelude.{ℕ, zero, suc, ◌+◌, ◌≤◌, Bool, true, false, List, [], ◌∷◌, length, take, drop, Option, Some, None, Result, Ok, Err}
 use Rattle.std.proofs.Common.{arith}
 use Rattle.constants.specs.Entry.{part}
 use Rattle.constants.specs.Distinct.{Short}
 use Rattle.constants.specs.declared.Val.TheVariants as val
 use Rattle.cursor.specs.Fields.{le2, has_bytes, byte_at, bits_at, text_at, end_of}
 use Rattle.cursor.specs.declared.Text.{Text}
-use Rattle.cursor.specs.declared.TextRead.{TextRead}
-use Rattle.cursor.specs.declared.TextRead.TheVariants as text
 use Rattle.nodes.specs.Nodes.{with_text, missing, fields_at, front_at, with_front, node_at}
 use Rattle.nodes.specs.Reads.{on_byte, on_bits, on_bin, on_un, on_require}
 use Rattle.ast.specs.Operators.{bin_op_of, un_op_of}
@@ -21,11 +19,10 @@ use Rattle.ast.specs.declared.Many.{Many}
 use Rattle.ast.specs.declared.Many.TheVariants as many
 use Rattle.ast.specs.declared.Head.{Head}
 use Rattle.ast.specs.declared.Head.TheVariants as head
-use Rattle.nodes.specs.declared.node.Front.{Front}
-use Rattle.nodes.specs.declared.node.Front.TheVariants as front
-use Rattle.nodes.specs.declared.node.NodeRead.{NodeRead}
-use Rattle.nodes.specs.declared.node.NodeRead.TheVariants as read
 use Rattle.model.specs.Claims.{Bytes}
+use Rattle.ast.specs.declared.Node.{Node}
+use Rattle.refusals.specs.declared.Refusal.{Refusal}
+use Rattle.nodes.specs.declared.node.Front.{Front}
 
 module _ (s : List ℕ) where
   abbrev pub ShortText : Text → Type 0
@@ -55,9 +52,9 @@ module _ (s : List ℕ) where
   ShortHead (head.Two t) = Unit {0}
   ShortHead (head.Many m n) = ShortMany m
 
-  abbrev pub ShortNode : NodeRead → Type 0
-  ShortNode (read.Node n) = ShortHead n.head
-  ShortNode (read.Refused r) = Unit {0}
+  abbrev pub ShortNode : Result Node Refusal → Type 0
+  ShortNode (Ok n) = ShortHead n.head
+  ShortNode (Err r) = Unit {0}
 
 -- at most n entries of a list
 pub take_at_most : (n : ℕ) (l : List ℕ) → length (take n l) ≤ n
@@ -66,7 +63,7 @@ take_at_most (suc n) [] = omega arith
 take_at_most (suc n) (x ∷ l) = let z : length (take n l) ≤ n = take_at_most n l in omega arith
 
 module _ (s : List ℕ) (b : Bytes s) where
-  short_text : (at : ℕ) (f : Text → NodeRead) → ((t : Text) → ShortText s t → ShortNode s (f t)) → ShortNode s (with_text (text_at s at) missing f)
+  short_text : (at : ℕ) (f : Text → Result Node Refusal) → ((t : Text) → ShortText s t → ShortNode s (f t)) → ShortNode s (with_text (text_at s at) missing f)
   unfolding text_at
   short_text at f g = go (has_bytes s at 2) (has_bytes s (at + 2) (le2 s at))
     where
@@ -76,7 +73,7 @@ module _ (s : List ℕ) (b : Bytes s) where
       low : ShortText s t
       low = let z : length (part s (at + 2) (le2 s at)) ≤ le2 s at = take_at_most (le2 s at) (drop (at + 2) s) in omega (arith, b at, b (at + 1))
 
-      go : (x y : Bool) → ShortNode s (with_text (elim x as (λ (_ : Bool). TextRead) [ true ↦ elim y as (λ (_ : Bool). TextRead) [ true ↦ text.Text t | false ↦ text.NoText ] | false ↦ text.NoText ]) missing f)
+      go : (x y : Bool) → ShortNode s (with_text (elim x as (λ (_ : Bool). Option Text) [ true ↦ elim y as (λ (_ : Bool). Option Text) [ true ↦ Some t | false ↦ None ] | false ↦ None ]) missing f)
       go true true = g t low
       go true false = tt
       go false y = tt
@@ -98,9 +95,9 @@ module _ (s : List ℕ) (b : Bytes s) where
   short_fields va k.Call at line = on_byte (ShortNode s) _ tt (byte_at s at) _ (λ n e. tt)
   short_fields va k.Paren at line = tt
 
-  short_front : (va : Bool) (f : Front) → ShortNode s (with_front f (fields_at s va))
-  short_front va (front.Front y at line) = short_fields va y at line
-  short_front va (front.Refused r) = tt
+  short_front : (va : Bool) (f : Result Front Refusal) → ShortNode s (with_front f (fields_at s va))
+  short_front va (Ok r) = short_fields va r.kind r.next r.line
+  short_front va (Err r) = tt
 
   pub short_node : (va : Bool) (at line : ℕ) → ShortNode s (node_at s va at line)
   unfolding node_at

@@ -1,5 +1,6 @@
 -- Negation and length: `prefix` stands for `neg_join` and `len_join`. A numeral is folded alike; else the operand is a register, which is freed, and the word is emitted that wants its own.
-use Rattle.std.specs.Prelude.{ℕ, ◌≤◌, ◌<◌, Bool, true, false, ◌&&◌, ◌≡◌, List, Float}
+use Rattle.folding.specs.Numeral.{Fold}
+use Rattle.std.specs.Prelude.{ℕ, ◌≤◌, ◌<◌, Bool, true, false, ◌&&◌, ◌≡◌, List, Float, Some, None}
 use Rattle.std.proofs.Math.Path.{refl, sym}
 use Rattle.std.proofs.Common.{ap, ◌∙◌, arith}
 use Rattle.std.proofs.Math.Option.{Option, some, none}
@@ -11,8 +12,6 @@ use Rattle.opcodes.specs.declared.OpCode.TheVariants as op
 use Rattle.folding.specs.Folding.{fold_of}
 use Rattle.folding.proofs.Laws.{fold_bits}
 use Rattle.folding.specs.declared.Arith.TheVariants as ar
-use Rattle.folding.specs.declared.Fold.{Fold}
-use Rattle.folding.specs.declared.Fold.TheVariants.{Folded, Kept}
 use Rattle.constants.specs.Entry.{Constant, number}
 use Rattle.model.specs.Values.{folds}
 use Rattle.ast.specs.declared.UnOp.TheVariants as un
@@ -93,14 +92,14 @@ module _ {Γ : Env} {s : State} {m : Buffers} {e : ExprContext} {f : ℕ} (p : P
   unfolding code_unop neg_join
   sim_neg = go (numeral (dv p)) (numeral_is p d) (λ v y. numeral_own Γ.active f (dv p) v y (sound_dv p h).own)
     where
-      kept : Ends (code_unary op.Unm e s m) (λ e' s' m'. SimD Γ s' m' e' (neg_join Kept f (dv p)))
+      kept : Ends (code_unary op.Unm e s m) (λ e' s' m'. SimD Γ s' m' e' (neg_join None f (dv p)))
       kept = sim_unary op.Unm (λ r. neg r) (λ t F w r l z. (l, z))
 
       under : Under (dv p).st.nxt (dv p).st.code
       under = (dv_new Γ.n h.some p h.new).on.old
 
-      tested : (t : Bool) → (is_numeral e && is_numeral (new_of kind.KNum 0)) ≡ t → const_fold ar.Unm e (new_of kind.KNum 0) ≡ elim t [ true ↦ fold_of ar.Unm e.nval (of_bits binary64 0) | false ↦ Kept ]
-      tested t z = ap (λ (b : Bool). elim b [ true ↦ fold_of ar.Unm e.nval (of_bits binary64 0) | false ↦ Kept ]) z
+      tested : (t : Bool) → (is_numeral e && is_numeral (new_of kind.KNum 0)) ≡ t → const_fold ar.Unm e (new_of kind.KNum 0) ≡ elim t [ true ↦ fold_of ar.Unm e.nval (of_bits binary64 0) | false ↦ None ]
+      tested t z = ap (λ (b : Bool). elim b [ true ↦ fold_of ar.Unm e.nval (of_bits binary64 0) | false ↦ None ]) z
 
       go : (n : Option ℕ) → NumIs Γ s m e n (dv p).st → ((v : ℕ) → n ≡ some v → (dv p).st.free ≡ f) → Ends (unless_folded (const_fold ar.Unm e (new_of kind.KNum 0)) e (code_unary op.Unm e) s m) (λ e' s' m'. SimD Γ s' m' e' (neg_join (folds ar.Unm n n) f (dv p)))
       go none q fr = rw (tested false (rw q refl)) kept
@@ -110,5 +109,5 @@ module _ {Γ : Env} {s : State} {m : Buffers} {e : ExprContext} {f : ℕ} (p : P
           second v n = rw n.double (unm_second (of_bits binary64 v) (of_bits binary64 0) (of_bits binary64 v))
 
           each : (w : Fold) → fold_of ar.Unm (of_bits binary64 v) (of_bits binary64 v) ≡ w → Ends (unless_folded w e (code_unary op.Unm e) s m) (λ e' s' m'. SimD Γ s' m' e' (neg_join w f (dv p)))
-          each Kept eq = kept
-          each (Folded z) eq = gives _ s m refl (fresh_desc (with_number z e) (kd (kc (number z.bits))) f (dv p).st under q.0.trues q.0.falses q.1 ((q.0.kind, (refl, ap (λ w. w.value) (fold_bits ar.Unm v v eq))), rw (← (fr v refl)) q.1.sim))
+          each None eq = kept
+          each (Some z) eq = gives _ s m refl (fresh_desc (with_number z e) (kd (kc (number z.bits))) f (dv p).st under q.0.trues q.0.falses q.1 ((q.0.kind, (refl, ap (λ w. w.value) (fold_bits ar.Unm v v eq))), rw (← (fr v refl)) q.1.sim))

@@ -8,7 +8,7 @@ use discharge::{exp2reg, exp2rk};
 use emission::{emit_at, emit_jump, emit_nil};
 use folding::{Arith, Numeral};
 use jumps::{concat_jumps, get_jump_target, patch_jump, patch_list_aux};
-use model::{Described, ExprContext, ExprKind, Given, State, Stepped};
+use model::{ExprContext, ExprKind, FuncState, State};
 use opcodes::OpCode;
 use operands::is_kind;
 use operators::{code_arith, code_comp};
@@ -38,34 +38,18 @@ fn print_size(label: &[u8], n: usize) {
     print_number(n as u64);
 }
 
-fn wide(n: u32) -> u64 {
-    n as u64
-}
-
-fn wide_byte(n: u8) -> u64 {
-    n as u64
-}
-
-fn print_word(words: &[u32], i: usize) {
-    if i < words.len() {
-        print(b" ");
-        print_number(wide(words[i]));
-    }
-}
-
 // The first n, or all of them.
 fn print_words(label: &[u8], words: &[u32], n: usize) {
     print(label);
-    let mut i = 0;
-    while i < n {
-        print_word(words, i);
-        i += 1;
+    for word in words.iter().take(n) {
+        print(b" ");
+        print_number(u64::from(*word));
     }
 }
 
 fn print_refusal(k: Refusal) {
     print(b"refused ");
-    print_number(wide(k.number()));
+    print_number(u64::from(u32::from(k)));
 }
 
 fn print_state(s: State) {
@@ -75,7 +59,7 @@ fn print_state(s: State) {
     print_size(b", count ", table.count);
 }
 
-// The kinds that steps here give.
+// The kinds that steps here give. By hand: a derived `Debug` would name the others too, which here are one.
 fn print_kind(kind: ExprKind) {
     match kind {
         ExprKind::False => print(b"False"),
@@ -88,9 +72,8 @@ fn print_kind(kind: ExprKind) {
     }
 }
 
-fn print_descriptor(e: ExprContext) {
-    let kind = e.kind;
-    print_kind(kind);
+fn print_descriptor(e: &ExprContext) {
+    print_kind(e.kind);
     print_size(b" ", e.info);
     print_size(b" t ", e.t);
     print_size(b" f ", e.f);
@@ -100,72 +83,104 @@ fn print_descriptor(e: ExprContext) {
     }
 }
 
-fn show_described(label: &[u8], answer: Described, code: &[u32]) {
+// The first n of the table's entries, or all of them.
+fn print_constants(kinds: &[u8], values: &[u64], n: usize) {
+    for (i, (kind, value)) in kinds.iter().zip(values).enumerate().take(n) {
+        print_size(b"  constant ", i);
+        print(b": kind ");
+        print_number(u64::from(*kind));
+        print(b", value ");
+        print_number(*value);
+        print(b"\n");
+    }
+}
+
+// ---- a step and its line
+
+// What a step gave that lists no constant, and the first n words and lines, whatever the answer.
+fn show_emission<F: FnOnce(&mut FuncState) -> Result<usize, Refusal>>(
+    label: &[u8],
+    code: &mut [u32],
+    lines: &mut [u32],
+    before: State,
+    n: usize,
+    step: F,
+)
+    requires { F.IsAlwaysCallable step }
+{
+    let mut fs = FuncState {
+        code,
+        lines,
+        kinds: &mut [],
+        values: &mut [],
+        pool: &mut [],
+        state: before,
+    };
     print(label);
     print(b": ");
-    match answer {
-        Described::Done(s, e) => {
-            print_descriptor(e);
-            print_state(s);
-            print_words(b", words", code, s.pc);
+    match step(&mut fs) {
+        Ok(given) => {
+            print_size(b"done ", given);
+            print_state(fs.state);
         }
-        Described::Refused(k) => print_refusal(k),
+        Err(k) => print_refusal(k),
     }
+    print_words(b", words", fs.code, n);
+    print_words(b", lines", fs.lines, n);
     print(b"\n");
 }
 
-fn print_given(answer: Given) {
-    match answer {
-        Given::Done(s, n) => {
-            print_size(b"done ", n);
-            print_state(s);
-        }
-        Given::Refused(k) => print_refusal(k),
-    }
+// The descriptor, the state and all words, and then the first `listed` constants or all that there are.
+fn print_made(fs: &FuncState, e: &ExprContext, listed: usize) {
+    let s = fs.state;
+    let table = s.table;
+    print_descriptor(e);
+    print_state(s);
+    print_words(b", words", fs.code, s.pc);
+    print(b"\n");
+    print_constants(fs.kinds, fs.values, listed.min(table.count));
 }
 
-// With the first n words and lines, whatever the answer.
-fn show_given(label: &[u8], answer: Given, code: &[u32], lines: &[u32], n: usize) {
+// What a step made of a descriptor, behind the words that are given. There is room for 300 constants.
+fn show_behind<F: FnOnce(&mut FuncState, &mut ExprContext) -> Result<(), Refusal>>(
+    label: &[u8],
+    mut code: [u32; 4],
+    before: State,
+    mut e: ExprContext,
+    listed: usize,
+    step: F,
+)
+    requires { F.IsAlwaysCallable step }
+{
+    let mut fs = FuncState {
+        code: &mut code,
+        lines: &mut [0; 4],
+        kinds: &mut [0; 300],
+        values: &mut [0; 300],
+        pool: &mut [0; 4],
+        state: before,
+    };
     print(label);
     print(b": ");
-    print_given(answer);
-    print_words(b", words", code, n);
-    print_words(b", lines", lines, n);
-    print(b"\n");
-}
-
-fn as_given(answer: Stepped) -> Given {
-    match answer {
-        Stepped::Done(s) => Given::Done(s, 0),
-        Stepped::Refused(k) => Given::Refused(k),
-    }
-}
-
-// The table's entry at an index.
-fn print_entry(kinds: &[u8], values: &[u64], i: usize) {
-    if i < kinds.len() {
-        if i < values.len() {
-            print_size(b"  constant ", i);
-            print(b": kind ");
-            print_number(wide_byte(kinds[i]));
-            print(b", value ");
-            print_number(values[i]);
+    match step(&mut fs, &mut e) {
+        Ok(()) => print_made(&fs, &e, listed),
+        Err(k) => {
+            print_refusal(k);
             print(b"\n");
         }
     }
 }
 
-// The first entry, where the table has one.
-fn show_first(answer: Described, kinds: &[u8], values: &[u64]) {
-    match answer {
-        Described::Done(s, _) => {
-            let table = s.table;
-            if 0 < table.count {
-                print_entry(kinds, values, 0);
-            }
-        }
-        Described::Refused(_) => {}
-    }
+// Behind no words, with no constant listed.
+fn show_step<F: FnOnce(&mut FuncState, &mut ExprContext) -> Result<(), Refusal>>(
+    label: &[u8],
+    before: State,
+    e: ExprContext,
+    step: F,
+)
+    requires { F.IsAlwaysCallable step }
+{
+    show_behind(label, [0; 4], before, e, 0, step);
 }
 
 // ---- what the steps start from
@@ -212,70 +227,60 @@ fn plain(kind: ExprKind) -> ExprContext {
 
 // ---- emission
 
-fn then_emit(code: &mut [u32], lines: &mut [u32], before: Given, w: u32, line: u32) -> Given {
-    match before {
-        Given::Done(s, _) => emit_at(code, lines, s, w, line),
-        Given::Refused(k) => Given::Refused(k),
-    }
-}
-
 // Move 1 2, LoadBool 3 1 0 and Not 0 1 0 on the lines 3, 4 and 5.
 fn three_words(label: &[u8], code: &mut [u32], lines: &mut [u32]) {
-    let first = emit_at(code, lines, start(4, 0), 16777280, 3);
-    let second = then_emit(code, lines, first, 8388802, 4);
-    let third = then_emit(code, lines, second, 8388627, 5);
-    show_given(label, third, code, lines, 4);
+    show_emission(label, code, lines, start(4, 0), 4, |fs| {
+        emit_at(fs, 16777280, 3)?;
+        emit_at(fs, 8388802, 4)?;
+        emit_at(fs, 8388627, 5)
+    });
 }
 
 // The third word is refused with 13 where the words or the lines have two places; what was emitted before stays.
 fn rooms() {
-    let mut code = [0u32; 4];
-    let mut lines = [0u32; 4];
-    three_words(b"three words", &mut code, &mut lines);
-}
-
-fn short_code() {
-    let mut code = [0u32; 2];
-    let mut lines = [0u32; 4];
-    three_words(b"room for two words", &mut code, &mut lines);
-}
-
-fn short_lines() {
-    let mut code = [0u32; 4];
-    let mut lines = [0u32; 2];
-    three_words(b"room for two lines", &mut code, &mut lines);
+    three_words(b"three words", &mut [0; 4], &mut [0; 4]);
+    three_words(b"room for two words", &mut [0; 2], &mut [0; 4]);
+    three_words(b"room for two lines", &mut [0; 4], &mut [0; 2]);
 }
 
 // A pending jump, word 0, leads to the word that is emitted: Jmp 0 and then Move 1 2.
 fn pending_jump() {
-    let mut code = [2147450902u32, 0, 0, 0];
-    let mut lines = [7u32, 0, 0, 0];
-    let answer = emit_at(&mut code, &mut lines, state(1, 4, 0, 1, 0), 16777280, 8);
-    show_given(b"a pending jump", answer, &code, &lines, 2);
+    show_emission(
+        b"a pending jump",
+        &mut [2147450902, 0, 0, 0],
+        &mut [7, 0, 0, 0],
+        state(1, 4, 0, 1, 0),
+        2,
+        |fs| emit_at(fs, 16777280, 8),
+    );
 }
 
 // A new jump takes the pending one over: Jmp -1, and then Jmp -2, which leads to the word 0.
 fn jump_over_pending() {
-    let mut code = [2147450902u32, 0, 0, 0];
-    let mut lines = [7u32, 0, 0, 0];
-    let answer = emit_jump(&mut code, &mut lines, state(1, 4, 0, 1, 0));
-    show_given(b"a jump behind a pending one", answer, &code, &lines, 2);
-}
-
-fn then_nil(code: &mut [u32], lines: &mut [u32], before: Stepped, from: usize) -> Stepped {
-    match before {
-        Stepped::Done(s) => emit_nil(code, lines, s, from),
-        Stepped::Refused(k) => Stepped::Refused(k),
-    }
+    show_emission(
+        b"a jump behind a pending one",
+        &mut [2147450902, 0, 0, 0],
+        &mut [7, 0, 0, 0],
+        state(1, 4, 0, 1, 0),
+        2,
+        emit_jump,
+    );
 }
 
 // Nil for two registers, with `pc` words, the first being w, and the last label.
 fn two_nils(label: &[u8], w: u32, pc: usize, last: usize, from: usize, next: usize) {
-    let mut code = [w, 0, 0, 0];
-    let mut lines = [7u32, 0, 0, 0];
-    let first = emit_nil(&mut code, &mut lines, state(pc, 4, 0, 0, last), from);
-    let second = then_nil(&mut code, &mut lines, first, next);
-    show_given(label, as_given(second), &code, &lines, 3);
+    show_emission(
+        label,
+        &mut [w, 0, 0, 0],
+        &mut [7, 0, 0, 0],
+        state(pc, 4, 0, 0, last),
+        3,
+        |fs| {
+            emit_nil(fs, from)?;
+            emit_nil(fs, next)?;
+            Ok(0)
+        },
+    );
 }
 
 // Behind Move 1 2: one word for adjacent registers, LoadNil 2 3, or for one, LoadNil 2 2; two for others, LoadNil 2 2 and LoadNil 4 4; none at word 0, where all
@@ -291,14 +296,15 @@ fn nils() {
 
 fn emissions() {
     rooms();
-    short_code();
-    short_lines();
     pending_jump();
     jump_over_pending();
     nils();
 }
 
 // ---- jump lists
+
+// Words 0, 2 and 4 are Jmp -1, word 1 is TestSet 255 3 1 and word 3 Move 1 2.
+const JUMPS: [u32; 6] = [2147450902, 25198555, 2147450902, 16777280, 2147450902, 0];
 
 fn print_list(label: &[u8], list: usize, code: &[u32]) {
     print(label);
@@ -316,47 +322,38 @@ fn print_targets(code: &[u32]) {
 }
 
 // Jmp 1 hangs the word 2 on the word 0, and then Jmp 1 the word 4 on the word 2: the last jump of the list.
-fn joined(code: &mut [u32]) {
-    print_list(b"three jumps", 0, code);
-    let first = concat_jumps(code, 1, 3);
-    print_list(b"1 and 3 joined", first, code);
-    let second = concat_jumps(code, first, 5);
-    print_list(b"and 5", second, code);
-    print_targets(code);
+fn joined() {
+    let mut code = JUMPS;
+    print_list(b"three jumps", 0, &code);
+    let first = concat_jumps(&mut code, 1, 3);
+    print_list(b"1 and 3 joined", first, &code);
+    let second = concat_jumps(&mut code, first, 5);
+    print_list(b"and 5", second, &code);
+    print_targets(&code);
 }
 
 // The jumps of a list land: that behind the TestSet leads to the word 7 with its value, the others to 5.
-fn landed(label: &[u8], code: &mut [u32], reg: usize) {
-    let list = concat_jumps(code, 1, 3);
-    let all = concat_jumps(code, list, 5);
-    patch_list_aux(code, all, 7, reg, 5);
-    print_list(label, all, code);
-}
-
-// Words 0, 2 and 4 are Jmp -1, word 1 is TestSet 255 3 1 and word 3 Move 1 2.
-fn lists() {
-    let mut code = [2147450902u32, 25198555, 2147450902, 16777280, 2147450902, 0];
-    joined(&mut code);
-}
-
-fn land(label: &[u8], reg: usize) {
-    let mut code = [2147450902u32, 25198555, 2147450902, 16777280, 2147450902, 0];
-    landed(label, &mut code, reg);
+fn landed(label: &[u8], reg: usize) {
+    let mut code = JUMPS;
+    let list = concat_jumps(&mut code, 1, 3);
+    let all = concat_jumps(&mut code, list, 5);
+    patch_list_aux(&mut code, all, 7, reg, 5);
+    print_list(label, all, &code);
 }
 
 // Jmp -3 from the word 4 leads to the word 2.
 fn patch_one() {
-    let mut code = [2147450902u32, 25198555, 2147450902, 16777280, 2147450902, 0];
+    let mut code = JUMPS;
     patch_jump(&mut code, 5, 2);
     print_list(b"5 led to word 2", 5, &code);
 }
 
 // TestSet 6 3 1, where the value goes to register 6; Test 3 0 1, which keeps none, where there is no register for it or it is there already.
 fn jump_lists() {
-    lists();
-    land(b"landed in register 6", 6);
-    land(b"landed in none", 255);
-    land(b"landed in its own register 3", 3);
+    joined();
+    landed(b"landed in register 6", 6);
+    landed(b"landed in none", 255);
+    landed(b"landed in its own register 3", 3);
     patch_one();
 }
 
@@ -364,23 +361,15 @@ fn jump_lists() {
 
 // Behind `pc` words, of which the first two are given.
 fn in_register(label: &[u8], w0: u32, w1: u32, pc: usize, e: ExprContext, reg: usize) {
-    let mut code = [w0, w1, 0, 0];
-    let mut lines = [0u32; 4];
-    let mut kinds = [0u8; 4];
-    let mut values = [0u64; 4];
-    let mut pool = [0u8; 4];
-    let answer = exp2reg(
-        &mut code,
-        &mut lines,
-        &mut kinds,
-        &mut values,
-        &mut pool,
-        state(pc, 4, 0, 0, 0),
+    let before = state(pc, 4, 0, 0, 0);
+    show_behind(
+        label,
+        [w0, w1, 0, 0],
+        before,
         e,
-        reg,
+        1,
+        |fs, e| exp2reg(fs, e, reg),
     );
-    show_described(label, answer, &code);
-    show_first(answer, &kinds, &values);
 }
 
 // LoadK 2 0, with the constant of kind 3; LoadBool 3 1 0; Move 2 1; nothing where the value is there.
@@ -394,21 +383,7 @@ fn registers() {
 }
 
 fn as_operand(label: &[u8], e: ExprContext, count: usize) {
-    let mut code = [0u32; 4];
-    let mut lines = [0u32; 4];
-    let mut kinds = [0u8; 300];
-    let mut values = [0u64; 300];
-    let mut pool = [0u8; 4];
-    let answer = exp2rk(
-        &mut code,
-        &mut lines,
-        &mut kinds,
-        &mut values,
-        &mut pool,
-        start(4, count),
-        e,
-    );
-    show_described(label, answer, &code);
+    show_step(label, start(4, count), e, exp2rk);
 }
 
 // All entries are nil, and there is room for 300: a number more is refused with 11. The constant 255 is an operand; the constant 256 goes to register 4, LoadK 4 256.
@@ -425,24 +400,13 @@ fn as_operands() {
 
 // ---- operators
 
-fn arith(label: &[u8], op: Arith, e1: ExprContext, e2: ExprContext) {
-    let mut code = [0u32; 4];
-    let mut lines = [0u32; 4];
-    let mut kinds = [0u8; 4];
-    let mut values = [0u64; 4];
-    let mut pool = [0u8; 4];
-    let answer = code_arith(
-        &mut code,
-        &mut lines,
-        &mut kinds,
-        &mut values,
-        &mut pool,
+fn arith(label: &[u8], op: Arith, e1: ExprContext, mut e2: ExprContext) {
+    show_step(
+        label,
         start(4, 0),
-        op,
         e1,
-        e2,
+        |fs, e| code_arith(fs, op, e, &mut e2),
     );
-    show_described(label, answer, &code);
 }
 
 // 1 + 2 is the number 3, without a word. Add 0 256 3 and Sub 0 3 256, and register 3 is free again. 1 / 0 is kept for the run: Div 0 257 256, as the right operand
@@ -460,26 +424,10 @@ fn arithmetic() {
     );
 }
 
-fn comp(label: &[u8], count: usize, swapped: bool, e1: ExprContext, e2: ExprContext) {
-    let mut code = [0u32; 4];
-    let mut lines = [0u32; 4];
-    let mut kinds = [0u8; 300];
-    let mut values = [0u64; 300];
-    let mut pool = [0u8; 4];
-    let answer = code_comp(
-        &mut code,
-        &mut lines,
-        &mut kinds,
-        &mut values,
-        &mut pool,
-        start(4, count),
-        OpCode::Lt,
-        true,
-        swapped,
-        e1,
-        e2,
-    );
-    show_described(label, answer, &code);
+fn comp(label: &[u8], count: usize, swapped: bool, e1: ExprContext, mut e2: ExprContext) {
+    show_step(label, start(4, count), e1, |fs, e| {
+        code_comp(fs, OpCode::Lt, true, swapped, e, &mut e2)
+    });
 }
 
 // Lt 1 2 3 and its jump, or Lt 1 3 2 where they change places, and both registers are free again. Lt 1 256 3 with the constant 0.
@@ -511,71 +459,23 @@ fn comparisons() {
 
 // ---- conditional jumps
 
-// Behind `pc` words, of which the first is w.
-fn if_true(label: &[u8], w: u32, pc: usize, e: ExprContext) {
-    let mut code = [w, 0, 0, 0];
-    let mut lines = [0u32; 4];
-    let mut kinds = [0u8; 4];
-    let mut values = [0u64; 4];
-    let mut pool = [0u8; 4];
-    let answer = goiftrue(
-        &mut code,
-        &mut lines,
-        &mut kinds,
-        &mut values,
-        &mut pool,
-        state(pc, 4, 0, 0, 0),
-        e,
-    );
-    show_described(label, answer, &code);
-}
-
-fn if_false(label: &[u8], e: ExprContext) {
-    let mut code = [0u32; 4];
-    let mut lines = [0u32; 4];
-    let mut kinds = [0u8; 4];
-    let mut values = [0u64; 4];
-    let mut pool = [0u8; 4];
-    let answer = goiffalse(
-        &mut code,
-        &mut lines,
-        &mut kinds,
-        &mut values,
-        &mut pool,
-        start(4, 0),
-        e,
-    );
-    show_described(label, answer, &code);
-}
-
-fn negated(label: &[u8], e: ExprContext) {
-    let mut code = [0u32; 4];
-    let mut lines = [0u32; 4];
-    let mut kinds = [0u8; 4];
-    let mut values = [0u64; 4];
-    let mut pool = [0u8; 4];
-    let answer = code_not(
-        &mut code,
-        &mut lines,
-        &mut kinds,
-        &mut values,
-        &mut pool,
-        start(4, 0),
-        e,
-    );
-    show_described(label, answer, &code);
-}
-
 // TestSet 255 3 0 (255: no register yet) and its jump, the word 1, as list f; TestSet 255 3 1 and list t. Nothing for a number, which is true; Jmp -1 alone for false.
 // Not 0 3 0, and register 3 is free again; not true is false. Behind Not 0 3 0 that word is taken back: Test 3 0 1 and its jump.
 fn conditional() {
-    if_true(b"if register 3", 0, 0, register(3));
-    if_true(b"if 1", 0, 0, number(ONE));
-    if_true(b"if false", 0, 0, plain(ExprKind::False));
-    if_false(b"unless register 3", register(3));
-    negated(b"not register 3", register(3));
-    negated(b"not true", plain(ExprKind::True));
-    if_true(b"if not register 3", 25165843, 1, relocable(0));
+    show_step(b"if register 3", start(4, 0), register(3), goiftrue);
+    show_step(b"if 1", start(4, 0), number(ONE), goiftrue);
+    show_step(b"if false", start(4, 0), plain(ExprKind::False), goiftrue);
+    show_step(b"unless register 3", start(4, 0), register(3), goiffalse);
+    show_step(b"not register 3", start(4, 0), register(3), code_not);
+    show_step(b"not true", start(4, 0), plain(ExprKind::True), code_not);
+    show_behind(
+        b"if not register 3",
+        [25165843, 0, 0, 0],
+        state(1, 4, 0, 0, 0),
+        relocable(0),
+        0,
+        goiftrue,
+    );
 }
 
 fn main() {

@@ -1,7 +1,7 @@
 // Names of locals: rilua's `search_local`.
 #![tactic(auto)]
 
-ghost use Rattle.std.specs.Prelude.{◌≡◌, ◌+◌, ◌<◌};
+ghost use Rattle.std.specs.Prelude.{◌≡◌};
 ghost use Rattle.buffers.specs.Lent.{bytes};
 ghost use Rattle.constants.specs.Entry.{same_bytes};
 ghost use Rattle.cursor.specs.Fields.{bytes_of};
@@ -9,8 +9,8 @@ ghost use Rattle.model.specs.Expressions.{register_named};
 ghost use Rattle.variables.specs.Found.{found_is, newest};
 
 use chunk::header::Header;
-use constants::Found;
-use cursor::{Text, TextRead};
+use cursor::Text;
+use reader::reader_at;
 
 // Whether two texts of the chunk have the same bytes.
 fn same_text(chunk: &[u8], a: Text, b: Text) -> bool
@@ -24,37 +24,28 @@ fn same_text(chunk: &[u8], a: Text, b: Text) -> bool
     )
 }
 
-// i + 1 where the name there is the one sought, else what was found before.
+// The register i where the name there is the one sought, else what was found before.
 #[tactic(auto, unfolding(crate::specs::Found::newest))]
-fn newer(chunk: &[u8], name: Text, sought: Text, i: usize, last: usize) -> usize
-    requires { i < 18446744073709551615 }
+fn newer(chunk: &[u8], name: Text, sought: Text, i: usize, last: Option<usize>) -> Option<usize>
     ensures { newest (bytes chunk) (bytes_of (bytes chunk) sought) name i last ≡ result }
 {
     if same_text(chunk, name, sought) {
-        return i + 1;
+        return Some(i);
     }
     last
 }
 
 // The last local of this name: its register.
-#[tactic(auto, using(cursor::specs::Inside::text_inside, crate::proofs::Seeking::sought_all, crate::proofs::Seeking::sought_cut, crate::proofs::Seeking::sought_end, crate::proofs::Seeking::decode_none, crate::proofs::Seeking::decode_some))]
-pub fn search_local(chunk: &[u8], h: Header, t: Text) -> Found
+#[tactic(auto, using(cursor::specs::Inside::text_inside, crate::proofs::Seeking::sought_all, crate::proofs::Seeking::sought_cut, crate::proofs::Seeking::sought_end))]
+pub fn search_local(chunk: &[u8], h: Header, t: Text) -> Option<usize>
     ensures { register_named (bytes chunk) h t ≡ found_is result }
 {
-    let count = h.locals;
     let mut at = h.names;
-    let mut i = 0;
-    let mut last = 0;
-    while i < count {
-        let TextRead::Text(name) = reader::read_text(chunk, at) else {
-            return Found::Nothing;
-        };
+    let mut last = None;
+    for i in 0..h.locals {
+        let name = reader_at(chunk, at).get_text()?;
         at = name.start + name.len;
         last = newer(chunk, name, t, i, last);
-        i += 1;
     }
-    if last == 0 {
-        return Found::Nothing;
-    }
-    Found::At(last - 1)
+    last
 }

@@ -3,8 +3,8 @@ use lib.ListN.{length}
 use Rattle.controller.specs.Laws.{tell_done, tell_refused}
 use Rattle.controller.proofs.tell.Goals as goal
 
-pub returns-in-Done : goal.returns-in-Done
-returns-in-Done c = tell_done (length c.args.counts.now) c.clear_values.ensures _ c.in-Done.is c.put.ensures c.put-in-Done.ensures c.put-in-Done-2.ensures c.put-in-Done-3.ensures
+pub returns-in-Ok : goal.returns-in-Ok
+returns-in-Ok c = tell_done (length c.args.counts.now) c.clear.ensures _ c.in-Ok.is c.put.ensures c.put-in-Ok.ensures c.put-in-Ok-2.ensures c.put-in-Ok-3.ensures
 
-pub returns-in-Refused : goal.returns-in-Refused
-returns-in-Refused c = tell_refused (length c.args.counts.now) c.clear_values.ensures c.in-Refused.is c.number.ensures
+pub returns-in-Err : goal.returns-in-Err
+returns-in-Err c = tell_refused (length c.args.counts.now) c.clear.ensures c.in-Err.is c.from.ensures

@@ -1,62 +1,57 @@
--- `expressions::compile_expr` and `compile_funcargs` meet their contracts, each way through the code by its law (specs/Paths.antt). Assumes nothing.
-use Rattle.std.proofs.Common.{arith, ◌∙◌}
-use Rattle.discharge.specs.Laws.{described_told}
-use Rattle.expressions.specs.Paths.{expr_none, expr_refused, expr_leaf, expr_one, expr_two_stopped, expr_two, expr_many_stopped, expr_many, args_none, args_last, args_stopped, args_more, args_full}
+-- `expressions::compile_expr` and `compile_funcargs` meet their contracts: of two sub-expressions what stands between and behind them, whatever the chunk; and the argument list by its ways (specs/Paths.antt). Assumes nothing.
+use Rattle.std.proofs.Common.{rules, arith, ◌≡◌, ◌∙◌, ◌+◌, ◌-◌}
+use Rattle.model.specs.Steps.{and_then}
+use Rattle.model.specs.Lengths.{same_on}
+use Rattle.model.specs.Expressions.{compile_expr, compile_head}
+use Rattle.expressions.specs.Paths.{args_none, args_last, args_stopped, args_more, args_full}
 use Rattle.expressions.proofs.+compile_expr_compile_funcargs.Goals as goal
 
-pub compile_expr-returns-then-left-eq0 : goal.compile_expr-returns-then-left-eq0
-compile_expr-returns-then-left-eq0 t c = expr_none _ _ _ _ _ c.if-left-eq0.true
+pub compile_expr-returns-in_err-between-in-Two : goal.compile_expr-returns-in_err-between-in-Two
+unfolding and_then compile_expr compile_head
+compile_expr-returns-in_err-between-in-Two t c = let h = c.between.ensures c.args.src.now.bytes.now c.args.src.now.header in search rules
 
-pub compile_expr-returns-in-Leaf : goal.compile_expr-returns-in-Leaf
-compile_expr-returns-in-Leaf t c = expr_leaf _ _ _ _ _ c.if-left-eq0.false c.read_node-read.ensures c.in-Node.is c.with_place-s.ensures c.in-Leaf.is c.leaf_expr.ensures
+pub compile_expr-returns-in_err-e2-in-Two : goal.compile_expr-returns-in_err-e2-in-Two
+unfolding and_then compile_expr compile_head
+compile_expr-returns-in_err-e2-in-Two t c = let h = c.between.ensures c.args.src.now.bytes.now c.args.src.now.header in search rules
 
-pub compile_expr-returns-in-One : goal.compile_expr-returns-in-One
-compile_expr-returns-in-One t c =
-    expr_one _ _ _ _ _ c.if-left-eq0.false c.read_node-read.ensures c.in-Node.is c.with_place-s.ensures c.compile_expr-first.ensures c.in-One.is (c.then_one.ensures _)
+pub compile_expr-returns-in_err-after_two-in-Two : goal.compile_expr-returns-in_err-after_two-in-Two
+unfolding and_then compile_expr compile_head
+compile_expr-returns-in_err-after_two-in-Two t c =
+    let h = c.between.ensures c.args.src.now.bytes.now c.args.src.now.header in
+    let g = c.after_two.ensures c.args.src.now.bytes.now c.args.src.now.header in search rules
 
-pub compile_expr-returns-in-Done : goal.compile_expr-returns-in-Done
-compile_expr-returns-in-Done t c =
-    expr_two _ _ _ _ _ c.if-left-eq0.false c.read_node-read.ensures c.in-Node.is c.with_place-s.ensures c.compile_expr-first.ensures c.in-Two.is
-    (described_told c.then_between-middle.result _ (c.then_between-middle.ensures _ _) c.in-Done.is) c.compile_expr-second.ensures (c.then_two.ensures _ _)
+pub compile_expr-returns-in_ok-after_two-in-Two : goal.compile_expr-returns-in_ok-after_two-in-Two
+unfolding and_then compile_expr compile_head
+compile_expr-returns-in_ok-after_two-in-Two t c =
+    let h = c.between.ensures c.args.src.now.bytes.now c.args.src.now.header in
+    let g = c.after_two.ensures c.args.src.now.bytes.now c.args.src.now.header in search rules
 
-pub compile_expr-returns-in-Refused-middle : goal.compile_expr-returns-in-Refused-middle
-compile_expr-returns-in-Refused-middle t c =
-    expr_two_stopped _ _ _ _ _ c.if-left-eq0.false c.read_node-read.ensures c.in-Node.is c.with_place-s.ensures c.compile_expr-first.ensures c.in-Two.is
-    (described_told c.then_between-middle.result _ (c.then_between-middle.ensures _ _) c.in-Refused-middle.is)
+pub compile_funcargs-returns-then-n-eq0 : goal.compile_funcargs-returns-then-n-eq0
+compile_funcargs-returns-then-n-eq0 t c = (args_none _ _ _ _ _ _ c.if-n-eq0.true ∙ c.closed_call.ensures.0, c.closed_call.ensures.1)
 
-pub compile_expr-returns-in-Done-func : goal.compile_expr-returns-in-Done-func
-compile_expr-returns-in-Done-func t c =
-    expr_many _ _ _ _ _ c.if-left-eq0.false c.read_node-read.ensures c.in-Node.is c.with_place-s.ensures c.compile_expr-first.ensures c.in-Many.is
-    (described_told c.then_callee-func.result _ (c.then_callee-func.ensures _) c.in-Done-func.is) c.compile_funcargs.ensures
+pub compile_funcargs-returns-in_err-e : goal.compile_funcargs-returns-in_err-e
+compile_funcargs-returns-in_err-e t c =
+    let h = c.loop.invariant.0 ∙ args_stopped _ _ _ _ _ _ (omega (arith, c.loop-test.true)) (rw c.in_err-e.was at c.compile_expr.ensures.0) in
+    (search rules, same_on c.args.fs.now c.loop.fs c.compile_expr.new.fs c.loop.invariant.1 c.compile_expr.ensures.1)
 
-pub compile_expr-returns-in-Refused-func : goal.compile_expr-returns-in-Refused-func
-compile_expr-returns-in-Refused-func t c =
-    expr_many_stopped _ _ _ _ _ c.if-left-eq0.false c.read_node-read.ensures c.in-Node.is c.with_place-s.ensures c.compile_expr-first.ensures c.in-Many.is
-    (described_told c.then_callee-func.result _ (c.then_callee-func.ensures _) c.in-Refused-func.is)
+pub compile_funcargs-returns-in_err-exp2nextreg : goal.compile_funcargs-returns-in_err-exp2nextreg
+compile_funcargs-returns-in_err-exp2nextreg t c =
+    let h = c.loop.invariant.0 ∙ args_full _ _ _ _ _ _ (omega (arith, c.loop-test.true)) (λ e. omega (arith, e, c.loop-test.true)) (rw c.in_ok-e.was at c.compile_expr.ensures.0) (rw c.in_err-exp2nextreg.was at c.exp2nextreg.ensures.0) in
+    (search rules, same_on c.args.fs.now c.loop.fs c.exp2nextreg.new.fs c.loop.invariant.1 (same_on c.loop.fs c.compile_expr.new.fs c.exp2nextreg.new.fs c.compile_expr.ensures.1 c.exp2nextreg.ensures.1))
 
-pub compile_expr-returns-in-Refused : goal.compile_expr-returns-in-Refused
-compile_expr-returns-in-Refused t c = expr_refused _ _ _ _ _ c.if-left-eq0.false c.read_node-read.ensures c.in-Refused.is
+pub compile_funcargs-loop-preserved : goal.compile_funcargs-loop-preserved
+compile_funcargs-loop-preserved t c =
+    let h = c.loop.invariant.0 ∙ args_more _ _ _ _ _ _ (omega (arith, c.loop-test.true)) (λ e. omega (arith, e, c.loop-test.true)) (rw c.in_ok-e.was at c.compile_expr.ensures.0) (rw c.in_ok-exp2nextreg.was at c.exp2nextreg.ensures.0) in
+    let z : c.args.n + 1 - (c.loop.counter + 1) ≡ c.args.n + 1 - c.loop.counter - 1 = omega arith in
+    (rw z h, same_on c.args.fs.now c.loop.fs c.exp2nextreg.new.fs c.loop.invariant.1 (same_on c.loop.fs c.compile_expr.new.fs c.exp2nextreg.new.fs c.compile_expr.ensures.1 c.exp2nextreg.ensures.1))
 
-pub compile_funcargs-returns-then-rest-eq1 : goal.compile_funcargs-returns-then-rest-eq1
-compile_funcargs-returns-then-rest-eq1 t c =
-    c.loop-rest.invariant
-    ∙ (args_last _ _ _ _ _ _ c.if-rest-eq1.true (described_told c.compile_expr-argument.result _ c.compile_expr-argument.ensures c.in-Done.is) ∙ c.last_argument.ensures)
-
-pub compile_funcargs-loop-rest-preserved : goal.compile_funcargs-loop-rest-preserved
-compile_funcargs-loop-rest-preserved t c =
-    c.loop-rest.invariant
-    ∙ args_more _ _ _ _ _ _ c.loop-rest-test.true c.if-rest-eq1.false (described_told c.compile_expr-argument.result _ c.compile_expr-argument.ensures c.in-Done.is)
-    (described_told c.exp2nextreg-placed.result _ c.exp2nextreg-placed.ensures c.in-Done-placed.is)
-
-pub compile_funcargs-returns-in-Refused-placed : goal.compile_funcargs-returns-in-Refused-placed
-compile_funcargs-returns-in-Refused-placed t c =
-    c.loop-rest.invariant
-    ∙ args_full _ _ _ _ _ _ c.loop-rest-test.true c.if-rest-eq1.false (described_told c.compile_expr-argument.result _ c.compile_expr-argument.ensures c.in-Done.is)
-    (described_told c.exp2nextreg-placed.result _ c.exp2nextreg-placed.ensures c.in-Refused-placed.is)
-
-pub compile_funcargs-returns-in-Refused : goal.compile_funcargs-returns-in-Refused
-compile_funcargs-returns-in-Refused t c =
-    c.loop-rest.invariant ∙ args_stopped _ _ _ _ _ _ c.loop-rest-test.true (described_told c.compile_expr-argument.result _ c.compile_expr-argument.ensures c.in-Refused.is)
+pub compile_funcargs-returns-in_err-e-2 : goal.compile_funcargs-returns-in_err-e-2
+compile_funcargs-returns-in_err-e-2 t c =
+    let h = c.loop.invariant.0 ∙ args_stopped _ _ _ _ _ _ (omega (arith, c.loop-test.false, c.loop.auto)) (rw c.in_err-e-2.was at c.compile_expr-2.ensures.0) in
+    (search rules, same_on c.args.fs.now c.loop.fs c.compile_expr-2.new.fs c.loop.invariant.1 c.compile_expr-2.ensures.1)
 
 pub compile_funcargs-returns : goal.compile_funcargs-returns
-compile_funcargs-returns t c = c.loop-rest.invariant ∙ (args_none _ _ _ _ _ _ (omega arith) ∙ c.closed_call.ensures _ _ _)
+compile_funcargs-returns t c = (
+  c.loop.invariant.0 ∙ args_last _ _ _ _ _ _ (omega (arith, c.loop-test.false, c.loop.auto)) (rw c.in_ok-e-2.was at c.compile_expr-2.ensures.0) ∙ c.last_argument.ensures.0,
+  same_on c.args.fs.now c.loop.fs c.last_argument.new.fs c.loop.invariant.1 (same_on c.loop.fs c.compile_expr-2.new.fs c.last_argument.new.fs c.compile_expr-2.ensures.1 c.last_argument.ensures.1),
+)

@@ -1,18 +1,24 @@
--- `formulas::formulas` meets its contract: before each turn, the formulas that are left, lowered from here, are all of them lowered from the start. Assumes nothing.
-use mathlib.Core.Path.{◌∙◌}
-use Rattle.discharge.specs.Laws.{described_told}
+-- `formulas::formulas` meets its contract, turn by turn (specs/Laws.antt). Assumes nothing.
+use Rattle.std.proofs.Common.{rules, arith, ◌≡◌, ◌∙◌, ◌+◌, ◌-◌}
+use Rattle.model.specs.Lengths.{same_on}
 use Rattle.formulas.specs.Laws.{formulas_none, formulas_stopped, formulas_more, formulas_full}
-use native.Mathlib.Omega.{arith}
 use Rattle.formulas.proofs.formulas.Goals as goal
 
-pub loop-rest-preserved : goal.loop-rest-preserved
-loop-rest-preserved c = (c.loop-rest.invariant.0 ∙ formulas_more _ _ _ _ c.loop-rest-test.true (described_told c.compile_expr-formula.result _ c.compile_expr-formula.ensures c.in-Done.is) (described_told c.exp2nextreg-placed.result _ c.exp2nextreg-placed.ensures c.in-Done-placed.is), omega (arith, c.loop-rest.invariant.1, c.exp2nextreg-placed.auto, c.compile_expr-formula.auto))
+pub returns-in_err-e : goal.returns-in_err-e
+returns-in_err-e c =
+    let h = c.loop.invariant.0 ∙ formulas_stopped _ _ _ _ (omega (arith, c.loop-test.true)) (rw c.in_err-e.was at c.compile_expr.ensures.0) in
+    (search rules, same_on c.args.fs.now c.loop.fs c.compile_expr.new.fs c.loop.invariant.1 c.compile_expr.ensures.1)
 
-pub returns-in-Refused-placed : goal.returns-in-Refused-placed
-returns-in-Refused-placed c = c.loop-rest.invariant.0 ∙ formulas_full _ _ _ _ c.loop-rest-test.true (described_told c.compile_expr-formula.result _ c.compile_expr-formula.ensures c.in-Done.is) (described_told c.exp2nextreg-placed.result _ c.exp2nextreg-placed.ensures c.in-Refused-placed.is)
+pub returns-in_err-exp2nextreg : goal.returns-in_err-exp2nextreg
+returns-in_err-exp2nextreg c =
+    let h = c.loop.invariant.0 ∙ formulas_full _ _ _ _ (omega (arith, c.loop-test.true)) (rw c.in_ok-e.was at c.compile_expr.ensures.0) (rw c.in_err-exp2nextreg.was at c.exp2nextreg.ensures.0) in
+    (search rules, same_on c.args.fs.now c.loop.fs c.exp2nextreg.new.fs c.loop.invariant.1 (same_on c.loop.fs c.compile_expr.new.fs c.exp2nextreg.new.fs c.compile_expr.ensures.1 c.exp2nextreg.ensures.1))
 
-pub returns-in-Refused : goal.returns-in-Refused
-returns-in-Refused c = c.loop-rest.invariant.0 ∙ formulas_stopped _ _ _ _ c.loop-rest-test.true (described_told c.compile_expr-formula.result _ c.compile_expr-formula.ensures c.in-Refused.is)
+pub loop-preserved : goal.loop-preserved
+loop-preserved c =
+    let h = c.loop.invariant.0 ∙ formulas_more _ _ _ _ (omega (arith, c.loop-test.true)) (rw c.in_ok-e.was at c.compile_expr.ensures.0) (rw c.in_ok-exp2nextreg.was at c.exp2nextreg.ensures.0) in
+    let z : c.args.n - (c.loop.counter + 1) ≡ c.args.n - c.loop.counter - 1 = omega arith in
+    (rw z h, same_on c.args.fs.now c.loop.fs c.exp2nextreg.new.fs c.loop.invariant.1 (same_on c.loop.fs c.compile_expr.new.fs c.exp2nextreg.new.fs c.compile_expr.ensures.1 c.exp2nextreg.ensures.1))
 
 pub returns : goal.returns
-returns c = c.loop-rest.invariant.0 ∙ formulas_none _ _ _ _ (omega (arith, c.loop-rest-test.false))
+returns c = (c.loop.invariant.0 ∙ formulas_none _ _ _ _ (omega (arith, c.loop-test.false, c.loop.auto)), c.loop.invariant.1)

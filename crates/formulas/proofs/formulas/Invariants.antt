@@ -1,16 +1,13 @@
 -- `formulas::formulas` meets its contract: before each turn, the formulas that are left, lowered from here, are all of them lowered from the start. Assumes nothing.
-use mathlib.Core.Path.{◌≡◌}
+use Rattle.std.proofs.Common.{◌≡◌, ◌-◌}
 use Rattle.chunk.specs.Form.{max_nesting}
-use Rattle.model.specs.Expressions.{compile_expr as compile-expr-of}
-use Rattle.model.specs.Lengths.{SameLengths}
-use Rattle.model.specs.Lowering.{formulas as formulas-of}
-use Rattle.model.specs.Steps.{bufs}
+use Rattle.model.specs.Expressions.{compile_expr}
+use Rattle.model.specs.Lowering.{formulas}
+use Rattle.model.specs.Relations.{bufs_of, SameBuffers}
 use Rattle.formulas.proofs.formulas.Given as goal
 
-abbrev pub invariant-loop-rest : goal.invariant-loop-rest
-invariant-loop-rest l =
-    (formulas-of (compile-expr-of l.chunk l.h max_nesting) l.n l.initial.s (bufs l.initial.code l.initial.lines l.initial.kinds l.initial.values l.initial.pool) ≡ formulas-of (compile-expr-of l.chunk l.h max_nesting) l.rest l.s (bufs l.code l.lines l.kinds l.values l.pool))
-    × SameLengths (bufs l.code l.lines l.kinds l.values l.pool) (bufs l.initial.code l.initial.lines l.initial.kinds l.initial.values l.initial.pool)
-
-abbrev pub decreases-loop-rest : goal.decreases-loop-rest
-decreases-loop-rest l = l.rest
+abbrev pub invariant-loop : goal.invariant-loop
+invariant-loop l =
+    (formulas (compile_expr l.src.bytes.now l.src.header max_nesting) l.n l.initial.fs.state (bufs_of l.initial.fs)
+    ≡ formulas (compile_expr l.src.bytes.now l.src.header max_nesting) (l.n - l.counter) l.fs.state (bufs_of l.fs))
+    × SameBuffers l.initial.fs l.fs

@@ -1,9 +1,7 @@
--- `listing::hex` meets its contract, as a function that calls itself with one digit less; the digits left are what falls. Assumes nothing.
-use Rattle.listing.specs.Laws.{hex_none, hex_more}
+-- `listing::hex` meets its contract where the front of the number does not fit: its last digit does not fit either. Assumes nothing.
+use Rattle.std.proofs.Common.{refl}
+use Rattle.listing.specs.Laws.{hex_more, put_lost}
 use Rattle.listing.proofs.+hex.Goals as goal
 
-pub returns-then-digits-eq0 : goal.returns-then-digits-eq0
-returns-then-digits-eq0 t c = hex_none _ _ _ _ c.if-digits-eq0.true
-
-pub returns : goal.returns
-returns t c = hex_more _ _ _ _ c.if-digits-eq0.false c.hex-p.ensures c.hex_digit.ensures c.put.ensures
+pub returns-in_err-at : goal.returns-in_err-at
+returns-in_err-at t c = hex_more _ _ _ _ c.if-digits-eq0.false c.in_err-at.ensures refl (put_lost _ _ c.from_residual.ensures)

@@ -1,11 +1,7 @@
--- `listing::text` meets its contract: before each turn, what is still to be put, put here, is the whole text put at the start. Assumes nothing.
-use mathlib.Core.Path.{sym, ◌∙◌}
-use Rattle.listing.specs.Laws.{text_turn, text_all}
-use native.Mathlib.Omega.{arith}
+-- `listing::text` meets its contract where a byte does not fit: the rest does not fit either. Assumes nothing.
+use Rattle.std.proofs.Common.{sym, ◌∙◌}
+use Rattle.listing.specs.Laws.{text_turn, puts_lost}
 use Rattle.listing.proofs.text.Goals as goal
 
-pub loop-i-preserved : goal.loop-i-preserved
-loop-i-preserved c = (text_turn _ _ _ _ c.loop-i-test.true c.put-p.ensures ∙ c.loop-i.invariant.0, omega (arith, c.loop-i.invariant.1, c.put-p.auto.out))
-
-pub returns : goal.returns
-returns c = sym c.loop-i.invariant.0 ∙ text_all _ _ _ _ c.loop-i-test.false
+pub returns-in_err-at : goal.returns-in_err-at
+returns-in_err-at c = sym c.loop-b.invariant ∙ sym (text_turn _ _ _ _ c.loop-b-test.true c.in_err-at.ensures) ∙ puts_lost _ _ c.from_residual.ensures

@@ -1,12 +1,7 @@
 -- `listing::text` meets its contract: before each turn, what is still to be put, put here, is the whole text put at the start. Assumes nothing.
-use Prim.Native.Nat.{◌-◌}
-use mathlib.Core.Path.{◌≡◌}
-use lib.ListN.{length, drop}
+use Rattle.std.proofs.Common.{◌≡◌, drop, Some}
 use Rattle.listing.specs.Page.{puts}
 use Rattle.listing.proofs.text.Given as goal
 
-abbrev pub invariant-loop-i : goal.invariant-loop-i
-invariant-loop-i l = (puts (drop l.i l.s) l.out l.p ≡ puts l.s l.initial.out l.initial.p) × (length l.out ≡ length l.initial.out)
-
-abbrev pub decreases-loop-i : goal.decreases-loop-i
-decreases-loop-i l = length l.s - l.i
+abbrev pub invariant-loop-b : goal.invariant-loop-b
+invariant-loop-b l = puts (drop l.b-index l.s) l.out (Some l.at) ≡ puts l.s l.initial.out (Some l.initial.at)

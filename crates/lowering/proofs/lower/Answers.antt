@@ -4,16 +4,19 @@ use Rattle.model.specs.Steps.{bufs}
 use Rattle.lowering.specs.Entry.{at_unformed, at_short, at_done, at_refused}
 use Rattle.lowering.specs.Running.{entry}
 use native.Mathlib.Omega.{arith}
+use Rattle.std.proofs.lemmas.Result.{err_from_is_err_and}
 use Rattle.lowering.proofs.lower.Goals as goal
 
 pub returns-then-scratch-n : goal.returns-then-scratch-n
-returns-then-scratch-n c = entry _ c.args.chunk.now (λ i. omega (arith, c.type_inv.chunk i)) _ (at_short (bufs c.args.code.now c.args.lines.now c.args.kinds.now c.args.values.now c.args.pool.now) c.args.chunk.now (length c.args.scratch.now) c.clear.ensures (omega (arith, c.clear.auto)) c.check_form-form.ensures c.in-Formed.is (omega (arith, c.if-scratch-n.true, c.check_form-form.auto.scratch)) c.clear_scratch.ensures (omega (arith, c.check_form-form.auto.scratch, c.clear_scratch.auto.scratch)))
+returns-then-scratch-n c = entry _ c.args.chunk.now (λ i. omega (arith, c.type_inv.chunk i)) _ (at_short (bufs c.args.code.now c.args.lines.now c.args.kinds.now c.args.values.now c.args.pool.now) c.args.chunk.now (length c.args.scratch.now) c.clear.ensures (omega (arith, c.clear.auto)) c.check_form.ensures c.in_ok-n.was (omega (arith, c.if-scratch-n.true, c.check_form.auto.scratch)) c.clear_scratch.ensures (omega (arith, c.check_form.auto.scratch, c.clear_scratch.auto.scratch)))
 
-pub returns-in-Done : goal.returns-in-Done
-returns-in-Done c = entry _ c.args.chunk.now (λ i. omega (arith, c.type_inv.chunk i)) _ (at_done (bufs c.args.code.now c.args.lines.now c.args.kinds.now c.args.values.now c.args.pool.now) c.args.chunk.now (length c.args.scratch.now) c.clear.ensures (omega (arith, c.clear.auto)) c.check_form-form.ensures c.in-Formed.is (omega (arith, c.if-scratch-n.false, c.check_form-form.auto.scratch)) c.lower_cleared-answer.ensures c.in-Done.is)
+pub returns-in-Ok : goal.returns-in-Ok
+returns-in-Ok c = entry _ c.args.chunk.now (λ i. omega (arith, c.type_inv.chunk i)) _ (at_done (bufs c.args.code.now c.args.lines.now c.args.kinds.now c.args.values.now c.args.pool.now) c.args.chunk.now (length c.args.scratch.now) c.clear.ensures (omega (arith, c.clear.auto)) c.check_form.ensures c.in_ok-n.was (omega (arith, c.if-scratch-n.false, c.check_form.auto.scratch)) c.lower_cleared.ensures c.in-Ok.is)
 
-pub returns-in-Refused-answer : goal.returns-in-Refused-answer
-returns-in-Refused-answer c = entry _ c.args.chunk.now (λ i. omega (arith, c.type_inv.chunk i)) _ (at_refused (bufs c.args.code.now c.args.lines.now c.args.kinds.now c.args.values.now c.args.pool.now) c.args.chunk.now (length c.args.scratch.now) c.clear.ensures (omega (arith, c.clear.auto)) c.check_form-form.ensures c.in-Formed.is (omega (arith, c.if-scratch-n.false, c.check_form-form.auto.scratch)) c.lower_cleared-answer.ensures c.in-Refused-answer.is c.clear_scratch-in-Refused-answer.ensures (omega (arith, c.check_form-form.auto.scratch, c.clear_scratch-in-Refused-answer.auto.scratch)))
+pub returns-in-Err : goal.returns-in-Err
+returns-in-Err c = entry _ c.args.chunk.now (λ i. omega (arith, c.type_inv.chunk i)) _ (at_refused (bufs c.args.code.now c.args.lines.now c.args.kinds.now c.args.values.now c.args.pool.now) c.args.chunk.now (length c.args.scratch.now) c.clear.ensures (omega (arith, c.clear.auto)) c.check_form.ensures c.in_ok-n.was (omega (arith, c.if-scratch-n.false, c.check_form.auto.scratch)) c.lower_cleared.ensures c.in-Err.is c.clear_scratch-in-Err.ensures (omega (arith, c.check_form.auto.scratch, c.clear_scratch-in-Err.auto.scratch)))
 
-pub returns-in-Refused : goal.returns-in-Refused
-returns-in-Refused c = entry _ c.args.chunk.now (λ i. omega (arith, c.type_inv.chunk i)) _ (at_unformed (bufs c.args.code.now c.args.lines.now c.args.kinds.now c.args.values.now c.args.pool.now) c.args.chunk.now (length c.args.scratch.now) c.clear.ensures (omega (arith, c.clear.auto)) c.check_form-form.ensures c.in-Refused.is)
+pub returns-in_err-n : goal.returns-in_err-n
+returns-in_err-n c =
+    let p = err_from_is_err_and c.from_residual.result c.from_residual.ensures.1 in
+    rw (p.1, p.2) (entry _ c.args.chunk.now (λ i. omega (arith, c.type_inv.chunk i)) _ (at_unformed (bufs c.args.code.now c.args.lines.now c.args.kinds.now c.args.values.now c.args.pool.now) c.args.chunk.now (length c.args.scratch.now) c.clear.ensures (omega (arith, c.clear.auto)) c.check_form.ensures c.in_err-n.was))

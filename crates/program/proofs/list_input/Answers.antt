@@ -6,7 +6,7 @@ use native.Mathlib.Omega.{arith}
 use Rattle.program.proofs.list_input.Goals as goal
 
 pub slice_bounds-write_all-end : goal.slice_bounds-write_all-end
-slice_bounds-write_all-end c = omega (arith, written_fits _ _ c.list_bytes-listed.ensures c.in-Written.is, c.list_bytes-listed.auto.out)
+slice_bounds-write_all-end c = omega (arith, written_fits _ _ c.list_bytes-listed.ensures c.in-Some.is, c.list_bytes-listed.auto.out)
 
-pub slice_bounds-write_all-end-in-Written : goal.slice_bounds-write_all-end-in-Written
-slice_bounds-write_all-end-in-Written c = sym (length-take-le _ _ (omega (arith, written_fits _ _ c.list_bytes-listed.ensures c.in-Written.is, c.list_bytes-listed.auto.out)))
+pub slice_bounds-write_all-end-in-Some : goal.slice_bounds-write_all-end-in-Some
+slice_bounds-write_all-end-in-Some c = sym (length-take-le _ _ (omega (arith, written_fits _ _ c.list_bytes-listed.ensures c.in-Some.is, c.list_bytes-listed.auto.out)))

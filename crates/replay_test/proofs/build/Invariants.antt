@@ -1,10 +1,6 @@
--- `replay_test::build` is safe and ends: the length is kept, and the measure is the number of pieces left. Assumes nothing.
-use lib.ListN.{length}
-use mathlib.Core.Path.{◌≡◌}
+-- `replay_test::build` ends further on in the list: each piece does. Assumes nothing.
+use Rattle.std.proofs.Common.{◌<◌, length}
 use Rattle.replay_test.proofs.build.Given as goal
 
-abbrev pub invariant-loop-left : goal.invariant-loop-left
-invariant-loop-left l = length l.chunk ≡ length l.initial.chunk
-
-abbrev pub decreases-loop-left : goal.decreases-loop-left
-decreases-loop-left l = l.left
+abbrev pub invariant-loop : goal.invariant-loop
+invariant-loop l = length l.end < length l.list

@@ -1,36 +1,15 @@
 -- Each arm is `fields_at` at its kind: what its function ensures, or a node with no fields.
-use mathlib.Core.Path.{refl}
+use Rattle.std.proofs.Common.{refl, inl, inr}
 use Rattle.nodes.specs.Nodes.{fields_at}
-use Rattle.nodes.proofs.Known.{binary_known, binary_unknown, unary_known, unary_unknown}
 use Rattle.nodes.proofs.skip.skip_fields.Goals as goal
 
 pub returns-in-Nil : goal.returns-in-Nil
 unfolding fields_at
-returns-in-Nil c = rw c.in-Nil.is c.ends.ensures
-
-pub returns-in-True : goal.returns-in-True
-unfolding fields_at
-returns-in-True c = rw c.in-True.is c.ends-in-True.ensures
-
-pub returns-in-False : goal.returns-in-False
-unfolding fields_at
-returns-in-False c = rw c.in-False.is c.ends-in-False.ensures
+returns-in-Nil c = elim c.in-Nil.is [ inl e ↦ rw e c.ends.ensures | inr d ↦ elim d [ inl e ↦ rw e c.ends.ensures | inr e ↦ rw e c.ends.ensures ] ]
 
 pub returns-in-Str : goal.returns-in-Str
 unfolding fields_at
-returns-in-Str c = rw c.in-Str.is (c.skip_text.ensures _ (λ _. refl))
-
-pub returns-in-Name : goal.returns-in-Name
-unfolding fields_at
-returns-in-Name c = rw c.in-Name.is (c.skip_text-in-Name.ensures _ (λ _. refl))
-
-pub returns-in-Binary : goal.returns-in-Binary
-unfolding fields_at
-returns-in-Binary c = rw c.in-Binary.is (c.skip_operator.ensures _ (binary_known _ _) (binary_unknown _ _))
-
-pub returns-in-Unary : goal.returns-in-Unary
-unfolding fields_at
-returns-in-Unary c = rw c.in-Unary.is (c.skip_operator-in-Unary.ensures _ (unary_known _ _) (unary_unknown _ _))
+returns-in-Str c = elim c.in-Str.is [ inl e ↦ rw e (c.skip_text.ensures _ (λ _. refl)) | inr e ↦ rw e (c.skip_text.ensures _ (λ _. refl)) ]
 
 pub returns-in-Index : goal.returns-in-Index
 unfolding fields_at

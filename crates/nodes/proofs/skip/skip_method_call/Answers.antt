@@ -1,7 +1,13 @@
 -- Behind the text stands the count of a call.
+use Rattle.std.proofs.Common.{◌≡◌, ◌∙◌, arith}
+use Rattle.std.specs.Prelude.{Some}
+use Rattle.cursor.specs.Fields.{text_at}
 use Rattle.nodes.specs.Nodes.{fields_at}
 use Rattle.nodes.proofs.skip.skip_method_call.Goals as goal
 
 pub returns : goal.returns
 unfolding fields_at
-returns c = λ va. rw (c.read_text.ensures, c.in-Text.is) (c.skip_call.ensures _)
+returns c =
+    let there : c.get_text.result ≡ Some c.in_ok-t.t = grind arith in
+    let text : text_at c.args.chunk.now c.args.at ≡ Some c.in_ok-t.t = rw (c.reader_at.ensures.0, c.reader_at.ensures.1) at (c.get_text.ensures ∙ there) in
+    λ va. rw text (c.skip_call.ensures _)

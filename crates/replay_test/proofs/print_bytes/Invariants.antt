@@ -1,9 +1,0 @@
--- `replay_test::print_bytes` is safe and ends: the measure is how many are left. Assumes nothing.
-use Prim.Native.Nat.{◌-◌}
-use Rattle.replay_test.proofs.print_bytes.Given as goal
-
-abbrev pub invariant-loop-i : goal.invariant-loop-i
-invariant-loop-i l = Unit {0}
-
-abbrev pub decreases-loop-i : goal.decreases-loop-i
-decreases-loop-i l = l.end - l.i
