@@ -1,5 +1,5 @@
 // The whole form: header, formulas, and nothing behind them; the places of the nodes go to the scratch.
-ghost use Rattle.std.specs.Prelude.{◌≡◌, length, set};
+ghost use Rattle.std.specs.Prelude.{◌≡◌, length};
 ghost use Rattle.chunk.specs.Ast.{spans, spans_of};
 ghost use Rattle.chunk.specs.Form.{expr_at, exprs_at, form_of};
 ghost use Rattle.chunk.specs.Walks.{Walked, Within, EndWithin, checked, out};
@@ -22,15 +22,6 @@ pub struct Walk {
     pub nodes: usize,
 }
 
-// Stores a node's place, if there is room.
-fn put_place(scratch: &mut [u32], i: usize, place: u32)
-    ensures { set scratch.old i place ≡ scratch.new }
-{
-    if i < scratch.len() {
-        scratch[i] = place;
-    }
-}
-
 // One expression, with `left` nestings left for it.
 #[cycle(walk_expr_walk_exprs)]
 fn walk_expr(
@@ -47,7 +38,8 @@ fn walk_expr(
         return Err(Refusal::Nesting);
     }
     let n = skip_node(chunk, varargs, w.at, w.line)?;
-    put_place(scratch, w.nodes, w.at as u32);
+    // a node's place, if there is room
+    buffers::put(scratch, w.nodes, w.at as u32);
     let next = Walk {
         at: n.next,
         line: n.line,

@@ -38,7 +38,7 @@ pub fn pop(fs: &mut FuncState)
     fs.state.pc = last;
 }
 
-// The test before the jump at a word, else the jump itself.
+// The test before the jump at a word, else the jump itself. A call of its own that reads the words: read in place, they are lost to the check behind it.
 fn control_at(fs: &FuncState, pc: usize) -> usize
     ensures { get_jump_control fs.now.code.now pc ≡ result }
 {
@@ -118,7 +118,7 @@ pub fn jumponcond(fs: &mut FuncState, e: &ExprContext, cond: bool) -> Result<usi
     emit_test(fs, OpCode::TestSet, NO_REG, d.info, bit(cond))
 }
 
-// The jump that a false value takes; none where the value is true.
+// The jump that a false value takes; none where the value is true. This and `jump_if_true` are two, as what follows them: their cases differ kind by kind.
 #[tactic(auto, unfolding(model::specs::Steps::and_then, model::specs::Conditions::jump_if_false))]
 fn jump_if_false(fs: &mut FuncState, e: &ExprContext) -> Result<usize, Refusal>
     ensures { Does (jump_if_false e.now.kind e.now) fs.old result fs.new }

@@ -24,8 +24,8 @@ pub enum Val {
     Str { start: usize, len: usize },
 }
 
-// How many entries the table has, and how many bytes of the pool they use. Kinds, values and pool are lent beside it one by one: the C interface has them so, `FuncState` of model brings them together,
-// and a second struct of the same slices, made from that one at each call, would be no plainer. An entry's kind is a number, 0 to 4, since the controllers read it so.
+// How many entries the table has, and how many bytes of the pool they use. Kinds, values and pool are lent beside it one by one: the C interface and document 01 have them as slices of their own,
+// and definitions and contracts (`added`, `Stores`, `Finds`) name them one by one. An entry's kind is a number, 0 to 4, since the controllers read it so.
 #[derive(Clone, Copy, PartialEq, Eq, Debug)]
 pub struct Table {
     pub count: usize,
@@ -52,10 +52,7 @@ fn four(s: &[u8], at: usize) -> u32
     requires { at + 4 ≤ length s.now }
     ensures { (four_of (bytes s) at ≡ result) × FourBytes (bytes s) at }
 {
-    u32::from(s[at])
-        + 256 * u32::from(s[at + 1])
-        + 65536 * u32::from(s[at + 2])
-        + 16777216 * u32::from(s[at + 3])
+    u32::from_le_bytes([s[at], s[at + 1], s[at + 2], s[at + 3]])
 }
 
 // From the end, where names made by counting differ, four bytes at a time and then the rest.
@@ -87,7 +84,7 @@ pub fn same_bytes(a: &[u8], b: &[u8]) -> bool
 fn truth_kind(b: bool) -> u8
     ensures { kind_of (truth b) ≡ result }
 {
-    if b { 2 } else { 1 }
+    1 + u8::from(b)
 }
 
 // Of the first `n` entries the first of this kind, whatever its value.
@@ -121,6 +118,7 @@ fn past_fours(values: &[u64], n: usize, bits: u64) -> usize
 }
 
 // Of the first `n` entries the first number of these bits: 0.0 and -0.0 are two constants, and a NaN is itself.
+// `(past_fours(..)..n).find(..)` was tried: that `Finds` holds of its answer stayed open, as of those of `find_each` and `find_alike`.
 #[tactic(auto, using(crate::proofs::Steps::found_first, crate::proofs::Steps::found_nowhere))]
 fn find_bits(kinds: &[u8], values: &[u64], n: usize, bits: u64) -> Option<usize>
     requires { (n ≤ length kinds.now) × (n ≤ length values.now) }
@@ -181,7 +179,7 @@ fn ends_alike(value: u64, pool: &[u8], len: usize, last: u32) -> bool
     four(pool, end - 4) == last
 }
 
-// Of the first `n` entries the first that is `text`, each text compared.
+// Of the first `n` entries the first that is `text`, each text compared. `(0..n).find(..)` was tried: that `Finds` holds of its answer stayed open.
 #[tactic(auto, using(crate::proofs::Steps::found_first, crate::proofs::Steps::found_nowhere))]
 fn find_each(kinds: &[u8], values: &[u64], pool: &[u8], n: usize, text: &[u8]) -> Option<usize>
     requires { (n ≤ length kinds.now) × (n ≤ length values.now) }
@@ -196,6 +194,7 @@ fn find_each(kinds: &[u8], values: &[u64], pool: &[u8], n: usize, text: &[u8]) -
 }
 
 // The same, and only texts compared that end as `text` does. A text that the pool's end cuts off isn't as long as its entry says, so it would be passed over; none such is `text` where the pool's last bytes aren't.
+// It takes 7 to 11 in 100 less with 158 to 255 constants (docs/BENCHMARKS.md). `iter().zip(..).position(..)` was tried: that `Finds` holds of its answer stayed open.
 #[tactic(auto, using(crate::proofs::Steps::found_first, crate::proofs::Steps::found_nowhere, crate::proofs::Steps::not_alike))]
 fn find_alike(kinds: &[u8], values: &[u64], pool: &[u8], n: usize, text: &[u8]) -> Option<usize>
     requires { (n ≤ length kinds.now) × (n ≤ length values.now) × (4 ≤ length text.now) × (same_bytes (tail_of (length text.now) pool.now) text.now ≡ false) }
@@ -229,7 +228,7 @@ fn find_text(kinds: &[u8], values: &[u64], pool: &[u8], n: usize, text: &[u8]) -
 }
 
 // The first of the first `count` entries that is the constant v. What stands at or above the count is never looked at.
-// A loop for each kind of constant, so that none asks at each entry what v is.
+// A loop for each kind of constant, so that none asks at each entry what v is: 10 to 17 in 100 less at 10,000 nodes with 250 constants (docs/BENCHMARKS.md, whose aim is to be no slower than the Rust).
 #[tactic(auto, using(crate::proofs::Steps::found_by, crate::proofs::Steps::holds_kind), unfolding(crate::specs::Entry::entry_of, crate::specs::Entry::same))]
 pub fn find(
     kinds: &[u8],
@@ -290,6 +289,7 @@ fn place(start: usize, len: usize) -> u64
 }
 
 // A new entry of this kind and value behind the others, and of `n` bytes of the pool.
+// Here and below the table goes in and comes back as a value, since the definition `added` takes one and its answer `Added` holds the next.
 fn store(
     kinds: &mut [u8],
     values: &mut [u64],

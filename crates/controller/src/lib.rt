@@ -1,24 +1,15 @@
 // The lowering for controllers: the one function that C calls (include/fuchsiarasp.h), which crate controller_c exports.
 #![tactic(auto)]
 
-ghost use Rattle.std.specs.Prelude.{◌≡◌, length, set};
-ghost use Rattle.buffers.specs.Lent.{Rewrites, bytes, new, old};
+ghost use Rattle.std.specs.Prelude.{◌≡◌, length};
+ghost use Rattle.buffers.specs.Lent.{Rewrites, bytes};
 ghost use Rattle.buffers.specs.Pad.{pad};
 ghost use Rattle.controller.specs.Told.{number_for, counts_for, TellsLent};
 
-use buffers::clear;
+use buffers::{clear, put};
 use lowering::lower;
 use model::Counts;
 use refusals::Refusal;
-
-// A count at index i, where the buffer reaches so far.
-fn put(counts: &mut [u64], i: usize, count: usize)
-    ensures { set (old counts) i count ≡ new counts }
-{
-    if i < counts.len() {
-        counts[i] = count as u64;
-    }
-}
 
 // The answer's number; the counts in their buffer.
 fn tell(answer: Result<Counts, Refusal>, counts: &mut [u64]) -> u32
@@ -27,10 +18,10 @@ fn tell(answer: Result<Counts, Refusal>, counts: &mut [u64]) -> u32
     clear(counts);
     match answer {
         Ok(k) => {
-            put(counts, 0, k.words);
-            put(counts, 1, k.constants);
-            put(counts, 2, k.text);
-            put(counts, 3, k.frame);
+            put(counts, 0, k.words as u64);
+            put(counts, 1, k.constants as u64);
+            put(counts, 2, k.text as u64);
+            put(counts, 3, k.frame as u64);
             0
         }
         Err(k) => u32::from(k),

@@ -1,8 +1,8 @@
 // Fields of the chunk at a place: a byte, a line, a number's bits, a text; or None where bytes of it are missing. Integers are little-endian.
 #![tactic(auto, using(crate::specs::Inside::has_yes, crate::specs::Inside::has_no, crate::specs::Inside::has_true), unfolding(crate::specs::Fields::byte_at, crate::specs::Fields::line_at, crate::specs::Fields::bits_at, crate::specs::Fields::text_at))]
 
-ghost use Rattle.std.specs.Prelude.{◌≡◌, ◌+◌, ◌≤◌, length};
-ghost use Rattle.cursor.specs.Fields.{le2, le4, le8, has_bytes, byte_at, line_at, bits_at, text_at};
+ghost use Rattle.std.specs.Prelude.{◌≡◌, ℕ, ◌+◌, ◌<◌, true, false, get_or, MatchOption};
+ghost use Rattle.cursor.specs.Fields.{has_bytes, byte_at, line_at, bits_at, text_at};
 
 // A text by its place in the chunk.
 #[derive(Clone, Copy, Debug, PartialEq, Eq)]
@@ -11,42 +11,11 @@ pub struct Text {
     pub len: usize,
 }
 
-// The numbers of 2, 4 and 8 bytes at a place, lowest byte first.
-fn two(s: &[u8], at: usize) -> u16
-    requires { at + 2 ≤ length s.now }
-    ensures { result ≡ le2 s.now at }
+// The N bytes at a place.
+fn fixed<const N: usize>(s: &[u8], at: usize) -> Option<[u8; N]>
+    ensures { MatchOption result (has_bytes s.now at N ≡ false) λ b. (has_bytes s.now at N ≡ true) × ((i : ℕ) → i < N → get_or b i 0 ≡ get_or s.now (at + i) 0) }
 {
-    u16::from_le_bytes([s[at], s[at + 1]])
-}
-
-fn four(s: &[u8], at: usize) -> u32
-    requires { at + 4 ≤ length s.now }
-    ensures { result ≡ le4 s.now at }
-{
-    u32::from_le_bytes([s[at], s[at + 1], s[at + 2], s[at + 3]])
-}
-
-fn eight(s: &[u8], at: usize) -> u64
-    requires { at + 8 ≤ length s.now }
-    ensures { result ≡ le8 s.now at }
-{
-    u64::from_le_bytes([
-        s[at],
-        s[at + 1],
-        s[at + 2],
-        s[at + 3],
-        s[at + 4],
-        s[at + 5],
-        s[at + 6],
-        s[at + 7],
-    ])
-}
-
-// Whether n bytes stand at a place. A count that is asked for, and no `get` of a range: the edits line_of_three and bits_of_seven ask for one byte less.
-fn has(s: &[u8], at: usize, n: usize) -> bool
-    ensures { has_bytes s.now at n ≡ result }
-{
-    at <= s.len() && n <= s.len() - at
+    s.get(at..)?.first_chunk::<N>().copied()
 }
 
 pub fn byte_at(s: &[u8], at: usize) -> Option<u8>
@@ -58,32 +27,21 @@ pub fn byte_at(s: &[u8], at: usize) -> Option<u8>
 pub fn line_at(s: &[u8], at: usize) -> Option<u32>
     ensures { line_at s.now at ≡ result }
 {
-    if !has(s, at, 4) {
-        return None;
-    }
-    Some(four(s, at))
+    fixed(s, at).map(u32::from_le_bytes)
 }
 
 pub fn bits_at(s: &[u8], at: usize) -> Option<u64>
     ensures { bits_at s.now at ≡ result }
 {
-    if !has(s, at, 8) {
-        return None;
-    }
-    Some(eight(s, at))
+    fixed(s, at).map(u64::from_le_bytes)
 }
 
 // A text: its length in two bytes, then its bytes.
 pub fn text_at(s: &[u8], at: usize) -> Option<Text>
     ensures { text_at s.now at ≡ result }
 {
-    if !has(s, at, 2) {
-        return None;
-    }
-    let len = usize::from(two(s, at));
+    let len = usize::from(fixed(s, at).map(u16::from_le_bytes)?);
     let start = at + 2;
-    if !has(s, start, len) {
-        return None;
-    }
+    s.get(start..start + len)?;
     Some(Text { start, len })
 }

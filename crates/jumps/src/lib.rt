@@ -24,9 +24,7 @@ pub fn word_at(code: &[u32], pc: usize) -> u32
 pub fn put_word(code: &mut [u32], pc: usize, w: u32)
     ensures { set (old code) pc w ≡ new code }
 {
-    if pc < code.len() {
-        code[pc] = w;
-    }
+    buffers::put(code, pc, w);
 }
 
 // The list behind a list's first jump, whose sBx this is: -1 leads nowhere.

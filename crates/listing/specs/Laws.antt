@@ -11,7 +11,8 @@ use borrow.Author.Tests.{lt-ltb, le-ltb, ltb-true, ltb-false, leb-true, leb-fals
 use Rattle.buffers.specs.Pad.{zeros, pad}
 use Rattle.buffers.specs.Laws.{length_pad, pad_none, set_pad}
 use Rattle.listing.specs.Listing.{ascii, number, decimal, hex, glyph, refusal_line, word_lines, constant_lines, word_line, constant_line}
-use Rattle.listing.specs.Page.{Page, page, put, puts, Sheet, sheet, written}
+use Rattle.listing.specs.Page.{Page, page, put, puts, Sheet, sheet, written, written_is}
+use Rattle.listing.specs.declared.Pen.{Pen}
 
 -- ---- one text behind another
 
@@ -284,3 +285,26 @@ listed_whole n t {o = o} {p = Some k} c e r = written_whole n t o (Some k) (ap (
 pub listed_not : (n : ℕ) (t : List ℕ) {z o o' : List ℕ} {p : Option ℕ} → zeros n ≡ z → puts t z (Some 0) ≡ page p o → is_some p ≡ false → length o ≡ n → zeros (length o) ≡ o' → written n t ≡ sheet p o'
 listed_not n t {o = o} {p = None} c e r k d = written_not n t o None (ap (λ z. puts t z (Some 0)) c ∙ e) refl ∙ ap (λ y. sheet None y) (ap zeros (sym k) ∙ d)
 listed_not n t {o = o} {p = Some x} c e r k d = absurd (let u : ◌≡◌ {A = ℕ} 0 1 = cc in omega arith)
+
+-- ---- by a pen
+
+-- one text behind another, on one slice
+pub writes_then : {G : Type 0} (t u o : List ℕ) (p : Option ℕ) {o₁ : List ℕ} {p₁ : Option ℕ} {r : Page} {g g₁ g₂ : G} → (puts t o p ≡ page p₁ o₁) × (g₁ ≡ g) → (puts u o₁ p₁ ≡ r) × (g₂ ≡ g₁) → (puts (t ++ u) o p ≡ r) × (g₂ ≡ g)
+writes_then t u o p e f = (puts_then t u o p e.0 f.0, f.1 ∙ e.1)
+
+-- once a byte had no room, nothing more is written
+pub pen_lost : (u : List ℕ) (b : Pen) {r : Option (Unit {0})} → r ≡ None → puts u b.out.now None ≡ written_is r b
+pen_lost u b n = over u b.out.now ∙ ap (λ r. written_is r b) (sym n)
+
+pub pen_full : (x : ℕ) (b : Pen) {r : Option (Unit {0})} → r ≡ None → put x b.out.now None ≡ written_is r b
+pen_full x b n = put_full x b.out.now ∙ ap (λ r. written_is r b) (sym n)
+
+pub writes_stop : {G : Type 0} (t u o : List ℕ) (p : Option ℕ) (b : Pen) {r : Option (Unit {0})} {g h : G} → (puts t o p ≡ page None b.out.now) × (h ≡ g) → r ≡ None → (puts (t ++ u) o p ≡ written_is r b) × (h ≡ g)
+writes_stop t u o p b e n = (puts_then t u o p e.0 (pen_lost u b n), e.1)
+
+pub one_put : (x : ℕ) (o : List ℕ) (p : Option ℕ) {r : Page} → puts (x ∷ []) o p ≡ r → put x o p ≡ r
+unfolding puts
+one_put x o p e = e
+
+pub text_next : (s : List ℕ) (i : ℕ) (o : List ℕ) (p : Option ℕ) {o₁ : List ℕ} {p₁ : Option ℕ} → i < length s → puts (get_or s i 0 ∷ []) o p ≡ page p₁ o₁ → puts (drop (i + 1) s) o₁ p₁ ≡ puts (drop i s) o p
+text_next s i o p l e = text_turn s i o p l (one_put (get_or s i 0) o p e)

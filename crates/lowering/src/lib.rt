@@ -61,6 +61,7 @@ fn lower_cleared(
 ) -> Result<Counts, Refusal>
     ensures { LowersCleared (bytes chunk) result code lines kinds values pool }
 {
+    // no `?`, here and below: a refusal clears the buffers first
     let header = match read_header(chunk) {
         Ok(h) => h,
         Err(k) => {
@@ -97,7 +98,7 @@ fn lower_cleared(
     }
 }
 
-// THE ENTRY. Whatever the bytes and however long the buffers: the answer and what each buffer then holds are those of `lowered`, whole. In particular (demand 1) each buffer
+// THE ENTRY, whose slices are those of the C interface. Whatever the bytes and however long the buffers: the answer and what each buffer then holds are those of `lowered`, whole. In particular (demand 1) each buffer
 // holds the result and then zeros, or only zeros beside a refusal; and (demand 3) running the words that now stand in `code` is reading the chunk's formulas.
 pub fn lower(
     chunk: &[u8],

@@ -8,7 +8,7 @@ use constants::Table;
 use folding::Numeral;
 use refusals::Refusal;
 
-// What a descriptor stands for, and so what its info and aux are.
+// What a descriptor stands for, and so what its info and aux are: numbers beside the kind, as in the Rust, in the definitions and in document 01's form of a descriptor.
 #[derive(Clone, Copy, Debug, PartialEq, Eq)]
 pub enum ExprKind {
     Nil,
@@ -91,7 +91,7 @@ impl ExprContext {
     }
 }
 
-// `FuncState` and the current line: the place in the chunk, the line, the words so far, the constants so far, the number of locals (`num_active_vars`),
+// What rilua's `FuncState` has beside its lists, and the current line: the place in the chunk, the line, the words so far, the constants so far, the number of locals (`num_active_vars`),
 // the next free register (`free_reg`), the registers in all (`max_stack_size`), the jumps that lead to the word to come (a list), and the last label
 // (`last_target`: 0 for none, or k + 1 for the word k; jpc and label are numbers for the reason given at the lists of `ExprContext`).
 #[derive(Clone, Copy)]

@@ -1,11 +1,15 @@
 // A node's fields, with its refusals in their order.
-#![tactic(auto, using(cursor::specs::Inside::byte_inside, cursor::specs::Inside::line_inside, cursor::specs::Inside::bits_inside, cursor::specs::Inside::text_inside, ast::specs::Refused::kind_refused, ast::specs::Refused::bin_op_refused, ast::specs::Refused::un_op_refused), unfolding(crate::specs::Nodes::fields_at, crate::specs::Nodes::node_at))]
+#![tactic(auto, using(cursor::specs::Inside::byte_inside, cursor::specs::Inside::line_inside, cursor::specs::Inside::bits_inside, cursor::specs::Inside::text_inside, ast::specs::Refused::kind_refused), unfolding(crate::specs::Nodes::fields_at, crate::specs::Nodes::node_at))]
 
-ghost use Rattle.std.specs.Prelude.{◌≡◌, List, Bool, ℕ};
-ghost use Rattle.nodes.specs.Nodes.{node, node_at, fields_at, front_at};
-ghost use Rattle.ast.specs.declared.Kind.TheVariants.{Number, Str, VarArg, Name, Binary, Unary, Field, MethodCall, Call};
+ghost use Rattle.std.specs.Prelude.{◌≡◌, List, Bool, ℕ, ◌+◌, Result, Err, MatchOption, MatchResult};
+ghost use Rattle.cursor.specs.Fields.{byte_at, text_at, end_of};
+ghost use Rattle.ast.specs.declared.Head.{Head};
+ghost use Rattle.refusals.specs.declared.Refusal.{Refusal};
+ghost use Rattle.nodes.specs.Nodes.{missing, node, node_at, fields_at, front_at};
+ghost use Rattle.ast.specs.declared.Kind.TheVariants.{Number, VarArg, MethodCall, Call};
 
 use ast::{BinOp, Head, Kind, Leaf, Many, Node, One, Two, UnOp};
+use cursor::Text;
 use reader::reader_at;
 use refusals::Refusal;
 
@@ -17,7 +21,8 @@ pub struct Front {
     pub line: u32,
 }
 
-// Each kind that has fields, or a test of its own: a vararg, which alone asks whether there are varargs.
+// Each kind that has fields, or a test of its own: a vararg, which alone asks whether there are varargs. Chunk, place and line go one by one, as `fields_at` takes them:
+// a Reader with a line beside it would be taken apart again for the place behind.
 fn read_number(chunk: &[u8], at: usize, line: u32) -> Result<Node, Refusal>
     ensures { (va : Bool) → fields_at chunk.now va Number at line ≡ result }
 {
@@ -29,12 +34,19 @@ fn read_number(chunk: &[u8], at: usize, line: u32) -> Result<Node, Refusal>
     })
 }
 
-fn read_str(chunk: &[u8], at: usize, line: u32) -> Result<Node, Refusal>
-    ensures { (va : Bool) → fields_at chunk.now va Str at line ≡ result }
+// A text, whatever head is made of it.
+fn read_text<F: FnOnce(Text) -> Head>(
+    chunk: &[u8],
+    at: usize,
+    line: u32,
+    make: F,
+) -> Result<Node, Refusal>
+    requires { F.IsAlwaysCallable make }
+    ensures { MatchOption (text_at chunk.now at) (missing ≡ result) λ t. (h : Head) × F.post make t h × (node h line (end_of t) ≡ result) }
 {
     let t = reader_at(chunk, at).get_text().ok_or(Refusal::Missing)?;
     Ok(Node {
-        head: Head::Leaf(Leaf::Str(t)),
+        head: make(t),
         line,
         next: t.start + t.len,
     })
@@ -53,49 +65,22 @@ fn read_vararg(varargs: bool, at: usize, line: u32) -> Result<Node, Refusal>
     Err(Refusal::Varargs)
 }
 
-fn read_name(chunk: &[u8], at: usize, line: u32) -> Result<Node, Refusal>
-    ensures { (va : Bool) → fields_at chunk.now va Name at line ≡ result }
-{
-    let t = reader_at(chunk, at).get_text().ok_or(Refusal::Missing)?;
-    Ok(Node {
-        head: Head::Leaf(Leaf::Name(t)),
-        line,
-        next: t.start + t.len,
-    })
-}
-
-fn read_binary(chunk: &[u8], at: usize, line: u32) -> Result<Node, Refusal>
-    ensures { (va : Bool) → fields_at chunk.now va Binary at line ≡ result }
+// An operator of either type, whatever head is made of it.
+fn read_operator<O: TryFrom<u8, Error = Refusal> + Drop, F: FnOnce(O) -> Head>(
+    chunk: &[u8],
+    at: usize,
+    line: u32,
+    make: F,
+) -> Result<Node, Refusal>
+    requires { F.IsAlwaysCallable make }
+    ensures { MatchOption (byte_at chunk.now at) (missing ≡ result) λ b. (r : Result O Refusal) × O.try_from_gives b r × MatchResult r (λ o. (h : Head) × F.post make o h × (node h line (at + 1) ≡ result)) (λ e. Err e ≡ result) }
 {
     let b = reader_at(chunk, at).get_byte().ok_or(Refusal::Missing)?;
-    let op = BinOp::try_from(b)?;
+    let op = O::try_from(b)?;
     Ok(Node {
-        head: Head::Two(Two::Binary(op)),
+        head: make(op),
         line,
         next: at + 1,
-    })
-}
-
-fn read_unary(chunk: &[u8], at: usize, line: u32) -> Result<Node, Refusal>
-    ensures { (va : Bool) → fields_at chunk.now va Unary at line ≡ result }
-{
-    let b = reader_at(chunk, at).get_byte().ok_or(Refusal::Missing)?;
-    let op = UnOp::try_from(b)?;
-    Ok(Node {
-        head: Head::One(One::Unary(op)),
-        line,
-        next: at + 1,
-    })
-}
-
-fn read_field(chunk: &[u8], at: usize, line: u32) -> Result<Node, Refusal>
-    ensures { (va : Bool) → fields_at chunk.now va Field at line ≡ result }
-{
-    let t = reader_at(chunk, at).get_text().ok_or(Refusal::Missing)?;
-    Ok(Node {
-        head: Head::One(One::Field(t)),
-        line,
-        next: t.start + t.len,
     })
 }
 
@@ -141,13 +126,13 @@ fn read_fields(chunk: &[u8], varargs: bool, front: Front) -> Result<Node, Refusa
         Kind::True => bare(Head::Leaf(Leaf::True), line, next),
         Kind::False => bare(Head::Leaf(Leaf::False), line, next),
         Kind::Number => read_number(chunk, next, line),
-        Kind::Str => read_str(chunk, next, line),
+        Kind::Str => read_text(chunk, next, line, |t| Head::Leaf(Leaf::Str(t))),
         Kind::VarArg => read_vararg(varargs, next, line),
-        Kind::Name => read_name(chunk, next, line),
-        Kind::Binary => read_binary(chunk, next, line),
-        Kind::Unary => read_unary(chunk, next, line),
+        Kind::Name => read_text(chunk, next, line, |t| Head::Leaf(Leaf::Name(t))),
+        Kind::Binary => read_operator(chunk, next, line, |op| Head::Two(Two::Binary(op))),
+        Kind::Unary => read_operator(chunk, next, line, |op| Head::One(One::Unary(op))),
         Kind::Index => bare(Head::Two(Two::Index), line, next),
-        Kind::Field => read_field(chunk, next, line),
+        Kind::Field => read_text(chunk, next, line, |t| Head::One(One::Field(t))),
         Kind::MethodCall => read_method_call(chunk, next, line),
         Kind::Call => read_call(chunk, next, line),
         Kind::Paren => bare(Head::One(One::Paren), line, next),

@@ -1,8 +1,8 @@
 // Where a node's own fields end, its line, and how many sub-expressions follow: the form check needs no more, so no head is built for it.
-// Its own reading, though `read_node` says as much: as one line over that a lowering of 1,000 nodes took a fifth more time (docs/BENCHMARKS.md), since a `read_node` with two calls is inlined in neither.
-#![tactic(auto, using(cursor::specs::Inside::byte_inside, cursor::specs::Inside::bits_inside, cursor::specs::Inside::text_inside, ast::specs::Refused::bin_op_refused, ast::specs::Refused::un_op_refused), unfolding(crate::specs::Nodes::fields_at, crate::specs::Nodes::node_at))]
+// Its own reading, though `read_node` says as much: as one line over that a lowering of 1,000 nodes took a fifth more time (docs/BENCHMARKS.md) and missed half of the Rust's at 10, which is met, since a `read_node` with two calls is inlined in neither.
+#![tactic(auto, using(cursor::specs::Inside::byte_inside, cursor::specs::Inside::bits_inside, cursor::specs::Inside::text_inside), unfolding(crate::specs::Nodes::fields_at, crate::specs::Nodes::node_at))]
 
-ghost use Rattle.std.specs.Prelude.{◌≡◌, List, Bool, ℕ, ◌+◌};
+ghost use Rattle.std.specs.Prelude.{◌≡◌, List, Bool, ℕ, ◌+◌, Result, Err, MatchOption, MatchResult};
 ghost use Rattle.cursor.specs.Fields.{byte_at, text_at, end_of};
 ghost use Rattle.cursor.specs.declared.Text.{Text};
 ghost use Rattle.ast.specs.Children.{children_of};
@@ -11,7 +11,9 @@ ghost use Rattle.nodes.specs.Extents.{extent, extent_of};
 ghost use Rattle.ast.specs.declared.Head.{Head};
 ghost use Rattle.ast.specs.declared.Head.TheVariants as head;
 ghost use Rattle.ast.specs.declared.Many.{Many};
-ghost use Rattle.ast.specs.declared.Kind.TheVariants.{Number, VarArg, Binary, Unary, MethodCall};
+ghost use Rattle.refusals.specs.declared.Refusal.{Refusal};
+ghost use Rattle.refusals.specs.declared.Refusal.TheVariants as refusal;
+ghost use Rattle.ast.specs.declared.Kind.TheVariants.{Number, VarArg, MethodCall};
 
 use crate::node::{Front, read_front};
 use ast::{BinOp, Kind, UnOp};
@@ -25,7 +27,7 @@ pub struct Extent {
     pub next: usize,
 }
 
-// A node whose kind has no fields.
+// The extent of a node whose own fields end at `next`.
 fn ends(children: usize, line: u32, next: usize) -> Result<Extent, Refusal>
     ensures { extent children line next ≡ result }
 {
@@ -61,20 +63,18 @@ fn skip_vararg(varargs: bool, at: usize, line: u32) -> Result<Extent, Refusal>
     Err(Refusal::Varargs)
 }
 
-fn skip_binary(chunk: &[u8], at: usize, line: u32) -> Result<Extent, Refusal>
-    ensures { (va : Bool) → extent_of (fields_at chunk.now va Binary at line) ≡ result }
+// An operator of either type.
+fn skip_operator<O: TryFrom<u8, Error = Refusal> + Drop>(
+    chunk: &[u8],
+    at: usize,
+    line: u32,
+    children: usize,
+) -> Result<Extent, Refusal>
+    ensures { MatchOption (byte_at chunk.now at) (Err refusal.Missing ≡ result) λ b. (r : Result O Refusal) × O.try_from_gives b r × MatchResult r (λ o. extent children line (at + 1) ≡ result) (λ e. Err e ≡ result) }
 {
     let b = reader_at(chunk, at).get_byte().ok_or(Refusal::Missing)?;
-    BinOp::try_from(b)?;
-    ends(2, line, at + 1)
-}
-
-fn skip_unary(chunk: &[u8], at: usize, line: u32) -> Result<Extent, Refusal>
-    ensures { (va : Bool) → extent_of (fields_at chunk.now va Unary at line) ≡ result }
-{
-    let b = reader_at(chunk, at).get_byte().ok_or(Refusal::Missing)?;
-    UnOp::try_from(b)?;
-    ends(1, line, at + 1)
+    O::try_from(b)?;
+    ends(children, line, at + 1)
 }
 
 // The argument count of a call of either kind.
@@ -103,8 +103,8 @@ fn skip_fields(chunk: &[u8], varargs: bool, front: Front) -> Result<Extent, Refu
         Kind::Number => skip_number(chunk, next, line),
         Kind::Str | Kind::Name => skip_text(chunk, next, line, 0),
         Kind::VarArg => skip_vararg(varargs, next, line),
-        Kind::Binary => skip_binary(chunk, next, line),
-        Kind::Unary => skip_unary(chunk, next, line),
+        Kind::Binary => skip_operator::<BinOp>(chunk, next, line, 2),
+        Kind::Unary => skip_operator::<UnOp>(chunk, next, line, 1),
         Kind::Index => ends(2, line, next),
         Kind::Field => skip_text(chunk, next, line, 1),
         Kind::MethodCall => skip_method_call(chunk, next, line),

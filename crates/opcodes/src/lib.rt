@@ -51,46 +51,7 @@ impl From<OpCode> for u32 {
     ghost from_gives = { λ op n. code_of op ≡ n };
 
     fn from(op: OpCode) -> u32 {
-        match op {
-            OpCode::Move => 0,
-            OpCode::LoadK => 1,
-            OpCode::LoadBool => 2,
-            OpCode::LoadNil => 3,
-            OpCode::GetUpval => 4,
-            OpCode::GetGlobal => 5,
-            OpCode::GetTable => 6,
-            OpCode::SetGlobal => 7,
-            OpCode::SetUpval => 8,
-            OpCode::SetTable => 9,
-            OpCode::NewTable => 10,
-            OpCode::OpSelf => 11,
-            OpCode::Add => 12,
-            OpCode::Sub => 13,
-            OpCode::Mul => 14,
-            OpCode::Div => 15,
-            OpCode::Mod => 16,
-            OpCode::Pow => 17,
-            OpCode::Unm => 18,
-            OpCode::Not => 19,
-            OpCode::Len => 20,
-            OpCode::Concat => 21,
-            OpCode::Jmp => 22,
-            OpCode::Eq => 23,
-            OpCode::Lt => 24,
-            OpCode::Le => 25,
-            OpCode::Test => 26,
-            OpCode::TestSet => 27,
-            OpCode::Call => 28,
-            OpCode::TailCall => 29,
-            OpCode::Return => 30,
-            OpCode::ForLoop => 31,
-            OpCode::ForPrep => 32,
-            OpCode::TForLoop => 33,
-            OpCode::SetList => 34,
-            OpCode::Close => 35,
-            OpCode::Closure => 36,
-            OpCode::VarArg => 37,
-        }
+        op as u32
     }
 }
 

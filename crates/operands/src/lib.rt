@@ -19,6 +19,7 @@ use opcodes::OpCode;
 
 // ---- kinds
 
+// A function, since the definitions ask by `is_kind` and the edit kinds_up_to is made on it.
 pub fn is_kind(e: &ExprContext, kind: ExprKind) -> bool
     ensures { is_kind kind e.now ≡ result }
 {
@@ -72,7 +73,7 @@ pub fn free_both(fs: &mut FuncState, e1: &ExprContext, e2: &ExprContext)
 
 // ---- operators
 
-// `and`, `or`, `..`, arithmetic, or a comparison: its opcode, the answer for which its jump is taken, and whether the operands change places.
+// `and`, `or`, `..`, arithmetic, or a comparison: its opcode, the answer for which its jump is taken, and whether the operands change places, one by one as the definitions of comparisons take them.
 #[derive(Clone, Copy)]
 pub enum Operation {
     And,

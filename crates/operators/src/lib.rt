@@ -6,7 +6,6 @@ ghost use Rattle.std.specs.Prelude.{◌≡◌};
 ghost use Rattle.model.specs.Relations.{Does, Makes, Yields, bufs_of};
 ghost use Rattle.model.specs.Steps.{done};
 ghost use Rattle.model.specs.Operators.{arith_op, const_fold, code_arith, code_unary, code_concat, is_far, far_numeral, either as either_of, emit_comp, code_comp, operand as operand_of, before_right, code_and, code_or, join_concat, after_right, code_unop};
-ghost use Rattle.operators.specs.Parts.{fold_unary};
 
 use ast::{BinOp, UnOp};
 use conditions::{
@@ -202,7 +201,7 @@ pub fn infix(fs: &mut FuncState, op: BinOp, e: &mut ExprContext) -> Result<(), R
     }
 }
 
-// The right value, with the jumps of the left.
+// The right value, with the jumps of the left. This and `code_or` are two, as in the Rust: one function that takes the list would be no plainer.
 #[tactic(auto, unfolding(model::specs::Steps::and_then, model::specs::Operators::code_and, model::specs::Emission::concat))]
 fn code_and(fs: &mut FuncState, e1: &mut ExprContext, e2: &mut ExprContext) -> Result<(), Refusal>
     ensures { Makes (code_and e1.old e2.old) fs.old result fs.new e1.new }
@@ -264,17 +263,7 @@ pub fn postfix(
 
 // ---- unary operators
 
-// A negated numeral is folded, unless it is a NaN.
-fn fold_unary(op: UnOp, e: &ExprContext) -> Option<Numeral>
-    ensures { fold_unary op e.now ≡ result }
-{
-    match op {
-        UnOp::Neg => const_fold(Arith::Unm, e, &ExprContext::new(ExprKind::KNum, 0)),
-        UnOp::Not | UnOp::Len => None,
-    }
-}
-
-// The operand of `Len` is a register, and that of `Unm` too (difference 6).
+// A negated numeral is folded, unless it is a NaN. The operand of `Len` is a register, and that of `Unm` too (difference 6).
 #[tactic(auto, unfolding(model::specs::Operators::code_unop))]
 pub fn prefix(fs: &mut FuncState, op: UnOp, e: &mut ExprContext) -> Result<(), Refusal>
     ensures { Makes (code_unop op e.old) fs.old result fs.new e.new }
@@ -283,7 +272,7 @@ pub fn prefix(fs: &mut FuncState, op: UnOp, e: &mut ExprContext) -> Result<(), R
         UnOp::Not => code_not(fs, e),
         UnOp::Len => code_unary(fs, OpCode::Len, e),
         UnOp::Neg => {
-            if let Some(n) = fold_unary(op, e) {
+            if let Some(n) = const_fold(Arith::Unm, e, &ExprContext::new(ExprKind::KNum, 0)) {
                 e.nval = n.value;
                 e.bits = n.bits;
                 return Ok(());

@@ -1,4 +1,4 @@
-// `weavelist` on an input of 65,537 bytes, which would be accepted but for its length (stdin and stdout: tools/replay.py).
+// `weavelist` on an input of 65,537 bytes, which would be accepted but for its length (stdin and stdout: tools/replay.py). A crate has one stdin, so a second input is a second program with the same `main`.
 #![tactic(auto)]
 
 fn main() {

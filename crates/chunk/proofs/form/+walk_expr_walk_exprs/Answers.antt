@@ -16,7 +16,7 @@ walk_expr-returns-in_err-n t c =
 pub walk_expr-returns-then-n-eq0 : goal.walk_expr-returns-then-n-eq0
 walk_expr-returns-then-n-eq0 t c =
     let i = node_in _ _ _ _ _ c.in_ok-n.ensures in (
-      expr_walked _ _ _ _ _ _ _ _ _ _ c.if-left-eq0.false c.in_ok-n.ensures (rw c.put_place.ensures (none_walked _ _ _ _ _ _ (omega arith))),
+      expr_walked _ _ _ _ _ _ _ _ _ _ c.if-left-eq0.false c.in_ok-n.ensures (rw c.put.ensures (none_walked _ _ _ _ _ _ (omega arith))),
       record { short = c.requires.short; at_in = i.1; few = omega (arith, i) },
     )
 
@@ -27,7 +27,7 @@ walk_expr-walk_exprs-requires t c =
 
 pub walk_expr-returns : goal.walk_expr-returns
 walk_expr-returns t c = (
-  expr_walked _ _ _ _ _ _ _ _ _ _ c.if-left-eq0.false c.in_ok-n.ensures (rw c.put_place.ensures c.walk_exprs.ensures.0),
+  expr_walked _ _ _ _ _ _ _ _ _ _ c.if-left-eq0.false c.in_ok-n.ensures (rw c.put.ensures c.walk_exprs.ensures.0),
   c.walk_exprs.ensures.1,
 )
 

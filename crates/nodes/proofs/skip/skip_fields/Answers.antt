@@ -1,5 +1,7 @@
--- Each arm is `fields_at` at its kind: what its function ensures, or a node with no fields.
-use Rattle.std.proofs.Common.{refl, inl, inr}
+-- Each arm is `fields_at` at its kind: what its function ensures, or a node with no fields. An operator that is refused is so with 4.
+use Rattle.std.proofs.Common.{refl, inl, inr, arith}
+use Rattle.std.proofs.lemmas.Grind.{common_steps}
+use Rattle.ast.specs.Refused.{bin_op_refused, un_op_refused}
 use Rattle.nodes.specs.Nodes.{fields_at}
 use Rattle.nodes.proofs.skip.skip_fields.Goals as goal
 
@@ -26,3 +28,11 @@ returns-in-Call c = rw c.in-Call.is (c.skip_call.ensures _)
 pub returns-in-Paren : goal.returns-in-Paren
 unfolding fields_at
 returns-in-Paren c = rw c.in-Paren.is c.ends-in-Paren.ensures
+
+pub returns-in-Binary : goal.returns-in-Binary
+unfolding fields_at
+returns-in-Binary c = rw c.in-Binary.is (grind (arith, common_steps, bin_op_refused))
+
+pub returns-in-Unary : goal.returns-in-Unary
+unfolding fields_at
+returns-in-Unary c = rw c.in-Unary.is (grind (arith, common_steps, un_op_refused))

@@ -1,7 +1,0 @@
--- `listing::decimal` meets its contract where the front of the number does not fit: its last digit does not fit either. Assumes nothing.
-use Rattle.std.proofs.Common.{refl}
-use Rattle.listing.specs.Laws.{decimal_large, put_lost}
-use Rattle.listing.proofs.+decimal.Goals as goal
-
-pub returns-in_err-at : goal.returns-in_err-at
-returns-in_err-at t c = decimal_large _ _ _ _ c.if-most-eq0.false c.if-n-lt10.false c.in_err-at.ensures refl (put_lost _ _ c.from_residual.ensures)

@@ -1,5 +1,0 @@
--- `listing::decimal` meets its contract, as a function that calls itself with one digit less; the digits left are what falls. Assumes nothing.
-use Rattle.listing.proofs.+decimal.Given as goal
-
-abbrev pub decreases-decimal : goal.decreases-decimal
-decreases-decimal l = l.most

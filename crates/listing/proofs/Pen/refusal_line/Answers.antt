@@ -1,0 +1,12 @@
+-- `Pen::refusal_line` meets its contract: a line put in parts, one behind the other, is the line put whole; where a part does not fit, the line does not. Assumes nothing.
+use Rattle.listing.specs.Laws.{writes_then, writes_stop}
+use Rattle.listing.proofs.Pen.refusal_line.Goals as goal
+
+pub returns-in_err-text : goal.returns-in_err-text
+returns-in_err-text c = writes_stop _ _ _ _ _ c.in_err-text.ensures c.from_residual.ensures
+
+pub returns-in_err-number : goal.returns-in_err-number
+returns-in_err-number c = writes_then _ _ _ _ c.in_ok-text.ensures (writes_stop _ _ _ _ _ c.in_err-number.ensures c.from_residual-in_err-number.ensures)
+
+pub returns : goal.returns
+returns c = writes_then _ _ _ _ c.in_ok-text.ensures (writes_then _ _ _ _ c.in_ok-number.ensures c.put.ensures)
