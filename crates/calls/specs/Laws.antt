@@ -1,4 +1,4 @@
--- Calls, indexing, names and leaves step by step: what a definition comes to once its first step's answer is known, as the code reads it. Assumes nothing.
+-- Calls, indexing, names and leaves step by step: what a definition comes to once its first step's answer is known. Assumes nothing.
 use Rattle.std.specs.Prelude.{ℕ, ◌+◌, ◌-◌, ◌≤◌, ◌<◌, Bool, ◌||◌, ◌≡◌, ltb, set}
 use Rattle.std.proofs.Math.Bool.{true, false}
 use mathlib.Core.List.{List}

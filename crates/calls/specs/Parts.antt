@@ -1,4 +1,4 @@
--- Parts of the definitions that the code has functions for. Assumes nothing.
+-- Parts of the definitions, which Laws.antt names. Assumes nothing.
 use Rattle.std.specs.Prelude.{ℕ}
 use Rattle.opcodes.specs.declared.OpCode.TheVariants as op
 use Rattle.model.specs.declared.ExprKind.{ExprKind}

@@ -4,7 +4,6 @@
 ghost use Rattle.std.specs.Prelude.{◌≡◌};
 ghost use Rattle.chunk.specs.Headers.{names_at, skipped, header_at, formulas_at};
 
-use reader::reader_at;
 use refusals::Refusal;
 
 // The most locals (rilua's instructions.rs; document 01, refusal 6).
@@ -26,7 +25,7 @@ fn skip_names(chunk: &[u8], count: usize, at: usize) -> Option<usize>
 {
     let mut next = at;
     for _ in 0..count {
-        let t = reader_at(chunk, next).get_text()?;
+        let t = reader::read_text(chunk, next)?;
         next = t.start + t.len;
     }
     Some(next)
@@ -42,7 +41,7 @@ fn read_formulas(
 ) -> Result<Header, Refusal>
     ensures { formulas_at chunk.now locals names varargs at ≡ result }
 {
-    let n = reader_at(chunk, at).get_byte().ok_or(Refusal::Missing)?;
+    let n = reader::read_byte(chunk, at).ok_or(Refusal::Missing)?;
     Ok(Header {
         locals,
         names,
@@ -55,7 +54,7 @@ fn read_formulas(
 pub fn read_header(chunk: &[u8]) -> Result<Header, Refusal>
     ensures { header_at chunk.now ≡ result }
 {
-    let map = reader_at(chunk, 0).get_byte().ok_or(Refusal::Missing)?;
+    let map = reader::read_byte(chunk, 0).ok_or(Refusal::Missing)?;
     if 3 < map {
         return Err(Refusal::Map);
     }
@@ -63,7 +62,7 @@ pub fn read_header(chunk: &[u8]) -> Result<Header, Refusal>
     if map % 2 == 0 {
         return read_formulas(chunk, 0, 1, varargs, 1);
     }
-    let count = reader_at(chunk, 1).get_byte().ok_or(Refusal::Missing)?;
+    let count = reader::read_byte(chunk, 1).ok_or(Refusal::Missing)?;
     if LUAI_MAXVARS < count {
         return Err(Refusal::Locals);
     }

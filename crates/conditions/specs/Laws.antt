@@ -1,4 +1,4 @@
--- Conditional jumps step by step: what a definition comes to once the answers of its steps are known, as the code reads them. Assumes nothing.
+-- Conditional jumps step by step: what a definition comes to once the answers of its steps are known. Assumes nothing.
 use Rattle.std.specs.Prelude.{ℕ, ◌+◌, ◌-◌, Bool, true, false, not, List, ◌≡◌, eqb, negsuc, length, set}
 use Rattle.std.proofs.Math.Path.{refl, ap}
 use Rattle.std.proofs.Common.{sym, ◌∙◌}

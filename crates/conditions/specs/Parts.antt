@@ -1,4 +1,4 @@
--- Parts of the definitions that the code has functions for: a word with its descriptor, that of a unary operator, a jump where none is pending, a test with its jump, and what a kind alone tells of a value. Assumes nothing.
+-- Parts of the definitions, which contracts or Laws.antt name: a word with its descriptor, that of a unary operator, a jump where none is pending, a test with its jump, and what a kind alone tells of a value. Assumes nothing.
 use Rattle.std.specs.Prelude.{ℕ, ◌+◌, Bool, true, false, negsuc}
 use Rattle.instructions.specs.Word.{a_sbx_of}
 use Rattle.opcodes.specs.declared.OpCode.{OpCode}

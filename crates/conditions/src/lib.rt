@@ -2,6 +2,8 @@
 #![tactic(auto, unfolding(model::specs::Steps::and_then))]
 
 ghost use Rattle.std.specs.Prelude.{◌&&◌, ◌≡◌, ◌-◌};
+ghost use Rattle.opcodes.specs.declared.OpCode.TheVariants.{Not};
+ghost use Rattle.buffers.specs.Lent.{bytes};
 ghost use Rattle.model.specs.declared.ExprKind.TheVariants.{Relocable};
 ghost use Rattle.model.specs.Relations.{Does, Makes, Yields};
 ghost use Rattle.model.specs.Descriptor.{is_kind};
@@ -11,8 +13,8 @@ ghost use Rattle.conditions.specs.Parts.{relocable, unary, tested};
 
 use discharge::{discharge_vars, discharge2anyreg, set_a_at};
 use emission::{emit_abc, emit_jump, get_instruction, patch_to_here};
-use instructions::NO_REG;
-use jumps::{concat_jumps, get_jump_control, jump_list, put_word, remove_values};
+use instructions::{Instruction, NO_REG};
+use jumps::{concat_jumps, get_jump_control, jump_list, put_word, remove_values, word_at};
 use model::{ExprContext, ExprKind, FuncState};
 use opcodes::OpCode;
 use operands::{free_expr, is_kind};
@@ -55,11 +57,24 @@ pub fn invertjump(fs: &mut FuncState, e: &ExprContext)
     set_a_at(fs.code, at, bit(i.a() == 0));
 }
 
-// Whether the value is a word of this opcode that is still to get its register.
-pub fn is_relocable(fs: &FuncState, e: &ExprContext, op: OpCode) -> bool
-    ensures { (is_kind Relocable e.now && is_op op (word fs.now.code.now e.now.info)) ≡ result }
+// Whether the value is a word of this opcode that is still to get its register. It asks for the words alone, shared.
+pub fn is_relocable(code: &[u32], e: &ExprContext, op: OpCode) -> bool
+    ensures { (is_kind Relocable e.now && is_op op (word (bytes code) e.now.info)) ≡ result }
 {
-    is_kind(e, ExprKind::Relocable) && get_instruction(fs, e.info).op() == u32::from(op)
+    if !is_kind(e, ExprKind::Relocable) {
+        return false;
+    }
+    let i = Instruction {
+        raw: word_at(code, e.info),
+    };
+    i.op() == u32::from(op)
+}
+
+// .. of a state's words. A call of its own, as `control_at`.
+fn is_not(fs: &FuncState, e: &ExprContext) -> bool
+    ensures { (is_kind Relocable e.now && is_op Not (word fs.now.code.now e.now.info)) ≡ result }
+{
+    is_relocable(fs.code, e, OpCode::Not)
 }
 
 // A word whose register is still to be set.
@@ -107,7 +122,7 @@ pub fn emit_test(
 pub fn jumponcond(fs: &mut FuncState, e: &ExprContext, cond: bool) -> Result<usize, Refusal>
     ensures { Does (jumponcond e.now cond) fs.old result fs.new }
 {
-    if is_relocable(fs, e, OpCode::Not) {
+    if is_not(fs, e) {
         let i = get_instruction(fs, e.info);
         pop(fs);
         return emit_test(fs, OpCode::Test, i.b() as usize, 0, bit(!cond));

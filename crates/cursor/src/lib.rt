@@ -42,6 +42,6 @@ pub fn text_at(s: &[u8], at: usize) -> Option<Text>
 {
     let len = usize::from(fixed(s, at).map(u16::from_le_bytes)?);
     let start = at + 2;
-    s.get(start..start + len)?;
+    s.get(start..)?.get(..len)?;
     Some(Text { start, len })
 }

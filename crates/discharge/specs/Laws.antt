@@ -1,4 +1,4 @@
--- Discharging step by step: what a definition comes to once its first step's answer is known, as the code reads it. Assumes nothing.
+-- Discharging step by step: what a definition comes to once its first step's answer is known. Assumes nothing.
 use types.Run.{OneOf, miss}
 use denote.Enum.Declared.{tag_of}
 use Rattle.std.specs.Prelude.{ℕ, ◌≤◌, ◌<◌, Bool, true, false, not, ◌||◌, List, [], ◌∷◌, ◌≡◌, leb, length, set}

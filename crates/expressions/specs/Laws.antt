@@ -1,4 +1,4 @@
--- What follows a sub-expression, step by step: what a definition comes to once its first step's answer is known, as the code reads it. Assumes nothing.
+-- What follows a sub-expression, step by step: what a definition comes to once its first step's answer is known. Assumes nothing.
 use Rattle.std.specs.Prelude.{ℕ, List, ◌≡◌}
 use Rattle.std.proofs.Math.Path.{refl}
 use Rattle.std.proofs.Common.{ap, ◌∙◌}

@@ -10,7 +10,6 @@ ghost use Rattle.ast.specs.declared.Kind.TheVariants.{Number, VarArg, MethodCall
 
 use ast::{BinOp, Head, Kind, Leaf, Many, Node, One, Two, UnOp};
 use cursor::Text;
-use reader::reader_at;
 use refusals::Refusal;
 
 // What stands before the fields: the kind, the place behind kind, map and line, and the node's line.
@@ -26,7 +25,7 @@ pub struct Front {
 fn read_number(chunk: &[u8], at: usize, line: u32) -> Result<Node, Refusal>
     ensures { (va : Bool) → fields_at chunk.now va Number at line ≡ result }
 {
-    let bits = reader_at(chunk, at).get_bits().ok_or(Refusal::Missing)?;
+    let bits = reader::read_bits(chunk, at).ok_or(Refusal::Missing)?;
     Ok(Node {
         head: Head::Leaf(Leaf::Number(bits)),
         line,
@@ -44,7 +43,7 @@ fn read_text<F: FnOnce(Text) -> Head>(
     requires { F.IsAlwaysCallable make }
     ensures { MatchOption (text_at chunk.now at) (missing ≡ result) λ t. (h : Head) × F.post make t h × (node h line (end_of t) ≡ result) }
 {
-    let t = reader_at(chunk, at).get_text().ok_or(Refusal::Missing)?;
+    let t = reader::read_text(chunk, at).ok_or(Refusal::Missing)?;
     Ok(Node {
         head: make(t),
         line,
@@ -75,7 +74,7 @@ fn read_operator<O: TryFrom<u8, Error = Refusal> + Drop, F: FnOnce(O) -> Head>(
     requires { F.IsAlwaysCallable make }
     ensures { MatchOption (byte_at chunk.now at) (missing ≡ result) λ b. (r : Result O Refusal) × O.try_from_gives b r × MatchResult r (λ o. (h : Head) × F.post make o h × (node h line (at + 1) ≡ result)) (λ e. Err e ≡ result) }
 {
-    let b = reader_at(chunk, at).get_byte().ok_or(Refusal::Missing)?;
+    let b = reader::read_byte(chunk, at).ok_or(Refusal::Missing)?;
     let op = O::try_from(b)?;
     Ok(Node {
         head: make(op),
@@ -87,9 +86,9 @@ fn read_operator<O: TryFrom<u8, Error = Refusal> + Drop, F: FnOnce(O) -> Head>(
 fn read_method_call(chunk: &[u8], at: usize, line: u32) -> Result<Node, Refusal>
     ensures { (va : Bool) → fields_at chunk.now va MethodCall at line ≡ result }
 {
-    let t = reader_at(chunk, at).get_text().ok_or(Refusal::Missing)?;
+    let t = reader::read_text(chunk, at).ok_or(Refusal::Missing)?;
     let end = t.start + t.len;
-    let args = reader_at(chunk, end).get_byte().ok_or(Refusal::Missing)?;
+    let args = reader::read_byte(chunk, end).ok_or(Refusal::Missing)?;
     Ok(Node {
         head: Head::Many(Many::MethodCall(t), args),
         line,
@@ -100,7 +99,7 @@ fn read_method_call(chunk: &[u8], at: usize, line: u32) -> Result<Node, Refusal>
 fn read_call(chunk: &[u8], at: usize, line: u32) -> Result<Node, Refusal>
     ensures { (va : Bool) → fields_at chunk.now va Call at line ≡ result }
 {
-    let args = reader_at(chunk, at).get_byte().ok_or(Refusal::Missing)?;
+    let args = reader::read_byte(chunk, at).ok_or(Refusal::Missing)?;
     Ok(Node {
         head: Head::Many(Many::Call, args),
         line,
@@ -142,9 +141,9 @@ fn read_fields(chunk: &[u8], varargs: bool, front: Front) -> Result<Node, Refusa
 pub fn read_front(chunk: &[u8], at: usize, line: u32) -> Result<Front, Refusal>
     ensures { front_at chunk.now at line ≡ result }
 {
-    let b = reader_at(chunk, at).get_byte().ok_or(Refusal::Missing)?;
+    let b = reader::read_byte(chunk, at).ok_or(Refusal::Missing)?;
     let kind = Kind::try_from(b)?;
-    let map = reader_at(chunk, at + 1).get_byte().ok_or(Refusal::Missing)?;
+    let map = reader::read_byte(chunk, at + 1).ok_or(Refusal::Missing)?;
     if map / 2 != kind.map() {
         return Err(Refusal::Map);
     }
@@ -152,7 +151,7 @@ pub fn read_front(chunk: &[u8], at: usize, line: u32) -> Result<Front, Refusal>
     if map % 2 == 0 {
         return Ok(Front { kind, next, line });
     }
-    let own = reader_at(chunk, next).get_line().ok_or(Refusal::Missing)?;
+    let own = reader::read_line(chunk, next).ok_or(Refusal::Missing)?;
     Ok(Front {
         kind,
         next: at + 6,

@@ -17,7 +17,6 @@ ghost use Rattle.ast.specs.declared.Kind.TheVariants.{Number, VarArg, MethodCall
 
 use crate::node::{Front, read_front};
 use ast::{BinOp, Kind, UnOp};
-use reader::reader_at;
 use refusals::Refusal;
 
 #[derive(Clone, Copy, Debug, PartialEq, Eq)]
@@ -42,7 +41,7 @@ fn ends(children: usize, line: u32, next: usize) -> Result<Extent, Refusal>
 fn skip_number(chunk: &[u8], at: usize, line: u32) -> Result<Extent, Refusal>
     ensures { (va : Bool) → extent_of (fields_at chunk.now va Number at line) ≡ result }
 {
-    reader_at(chunk, at).get_bits().ok_or(Refusal::Missing)?;
+    reader::read_bits(chunk, at).ok_or(Refusal::Missing)?;
     ends(0, line, at + 8)
 }
 
@@ -50,7 +49,7 @@ fn skip_number(chunk: &[u8], at: usize, line: u32) -> Result<Extent, Refusal>
 fn skip_text(chunk: &[u8], at: usize, line: u32, children: usize) -> Result<Extent, Refusal>
     ensures { (make : Text → Head) → ((t : Text) → children_of (make t) ≡ children) → extent_of (with_text (text_at chunk.now at) missing λ t. node (make t) line (end_of t)) ≡ result }
 {
-    let t = reader_at(chunk, at).get_text().ok_or(Refusal::Missing)?;
+    let t = reader::read_text(chunk, at).ok_or(Refusal::Missing)?;
     ends(children, line, t.start + t.len)
 }
 
@@ -72,7 +71,7 @@ fn skip_operator<O: TryFrom<u8, Error = Refusal> + Drop>(
 ) -> Result<Extent, Refusal>
     ensures { MatchOption (byte_at chunk.now at) (Err refusal.Missing ≡ result) λ b. (r : Result O Refusal) × O.try_from_gives b r × MatchResult r (λ o. extent children line (at + 1) ≡ result) (λ e. Err e ≡ result) }
 {
-    let b = reader_at(chunk, at).get_byte().ok_or(Refusal::Missing)?;
+    let b = reader::read_byte(chunk, at).ok_or(Refusal::Missing)?;
     O::try_from(b)?;
     ends(children, line, at + 1)
 }
@@ -81,14 +80,14 @@ fn skip_operator<O: TryFrom<u8, Error = Refusal> + Drop>(
 fn skip_call(chunk: &[u8], at: usize, line: u32) -> Result<Extent, Refusal>
     ensures { (many : Many) → extent_of (with_byte (byte_at chunk.now at) missing λ n. node (head.Many many n) line (at + 1)) ≡ result }
 {
-    let args = reader_at(chunk, at).get_byte().ok_or(Refusal::Missing)?;
+    let args = reader::read_byte(chunk, at).ok_or(Refusal::Missing)?;
     ends(usize::from(args) + 1, line, at + 1)
 }
 
 fn skip_method_call(chunk: &[u8], at: usize, line: u32) -> Result<Extent, Refusal>
     ensures { (va : Bool) → extent_of (fields_at chunk.now va MethodCall at line) ≡ result }
 {
-    let t = reader_at(chunk, at).get_text().ok_or(Refusal::Missing)?;
+    let t = reader::read_text(chunk, at).ok_or(Refusal::Missing)?;
     skip_call(chunk, t.start + t.len, line)
 }
 

@@ -1,4 +1,4 @@
--- Operands step by step: what a definition comes to once its tests and its steps' answers are known, as the code reads it. Assumes nothing.
+-- Operands step by step: what a definition comes to once its tests and its steps' answers are known. Assumes nothing.
 use Rattle.std.specs.Prelude.{ℕ, ◌+◌, ◌%◌, ◌<◌, ◌≤◌, Bool, true, false, ◌≡◌, refl, leb}
 use Rattle.std.proofs.Math.Bool.{and-false}
 use Rattle.std.proofs.Common.{sym, ◌∙◌}

@@ -1,4 +1,4 @@
--- Operators step by step: what a definition comes to once the answers of its steps are known, as the code reads them. Assumes nothing.
+-- Operators step by step: what a definition comes to once the answers of its steps are known. Assumes nothing.
 use Rattle.folding.specs.Numeral.{Fold}
 use Rattle.std.specs.Prelude.{ℕ, Bool, not, ◌&&◌, List, [], ◌≡◌, set, Some, None}
 use Rattle.std.proofs.Math.Bool.{true, false}

@@ -1,4 +1,4 @@
--- Parts of the definitions that the code has functions for: what follows the operands. Assumes nothing.
+-- Parts of the definitions, which Laws.antt names: what follows the operands. Assumes nothing.
 use Rattle.folding.specs.Numeral.{Fold}
 use Rattle.std.specs.Prelude.{ℕ, ◌-◌, Bool, true, false, ◌&&◌, None}
 use Rattle.instructions.specs.Word.{set_b_of}

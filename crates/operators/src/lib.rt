@@ -2,9 +2,13 @@
 // Of two operands the left one becomes the result; the right one is used up.
 #![tactic(auto, unfolding(model::specs::Steps::and_then))]
 
-ghost use Rattle.std.specs.Prelude.{◌≡◌};
+ghost use Rattle.std.specs.Prelude.{◌≡◌, ◌&&◌, ℕ, List};
+ghost use Rattle.opcodes.specs.declared.OpCode.TheVariants.{Concat};
+ghost use Rattle.model.specs.declared.ExprKind.TheVariants.{Relocable};
+ghost use Rattle.model.specs.Descriptor.{is_kind};
+ghost use Rattle.model.specs.Jumps.{word, is_op};
 ghost use Rattle.model.specs.Relations.{Does, Makes, Yields, bufs_of};
-ghost use Rattle.model.specs.Steps.{done};
+ghost use Rattle.model.specs.Steps.{bufs, done};
 ghost use Rattle.model.specs.Operators.{arith_op, const_fold, code_arith, code_unary, code_concat, is_far, far_numeral, either as either_of, emit_comp, code_comp, operand as operand_of, before_right, code_and, code_or, join_concat, after_right, code_unop};
 
 use ast::{BinOp, UnOp};
@@ -16,7 +20,7 @@ use discharge::{discharge_vars, exp2anyreg, exp2nextreg, exp2rk, exp2val, set_b_
 use folding::{Arith, Numeral};
 use instructions::{B_SIZE, MAXINDEXRK};
 use jumps::concat_jumps;
-use model::{ExprContext, ExprKind, FuncState};
+use model::{ExprContext, ExprKind, FuncState, State};
 use opcodes::OpCode;
 use operands::{Operation, free_both, free_expr, rk};
 use refusals::Refusal;
@@ -109,13 +113,20 @@ fn is_far(found: Option<usize>, count: usize) -> bool
     }
 }
 
-// A numeral that is listed above 255, or unlisted with 256 entries or more (difference 2).
+// A numeral that is listed above 255, or unlisted with 256 entries or more (difference 2). It asks for kinds and values alone, shared.
 #[tactic(auto, unfolding(model::specs::Operators::far_numeral))]
-pub fn far_numeral(fs: &FuncState, e: &ExprContext) -> bool
+pub fn far_numeral(kinds: &[u8], values: &[u64], st: &State, e: &ExprContext) -> bool
+    ensures { (code lines pool : List ℕ) → far_numeral e.now st.now (bufs code lines kinds.now values.now pool) ≡ done result st.now (bufs code lines kinds.now values.now pool) }
+{
+    let count = st.table.count;
+    e.is_numeral() && is_far(find_numeral(kinds, values, count, e.bits), count)
+}
+
+// .. by a state's constants. A call of its own, as `control_at` of conditions.
+fn is_far_operand(fs: &FuncState, e: &ExprContext) -> bool
     ensures { far_numeral e.now fs.now.state (bufs_of fs.now) ≡ done result fs.now.state (bufs_of fs.now) }
 {
-    let count = fs.state.table.count;
-    e.is_numeral() && is_far(find_numeral(fs.kinds, fs.values, count, e.bits), count)
+    far_numeral(fs.kinds, fs.values, &fs.state, e)
 }
 
 // The second where they change places.
@@ -166,7 +177,7 @@ pub fn code_comp(
 ) -> Result<(), Refusal>
     ensures { Makes (code_comp op cond swapped e1.old e2.old) fs.old result fs.new e1.new }
 {
-    if far_numeral(fs, e1) {
+    if is_far_operand(fs, e1) {
         exp2rk(fs, e2)?;
         exp2rk(fs, e1)?;
         return emit_comp(fs, op, cond, swapped, e1, e2);
@@ -222,6 +233,13 @@ fn code_or(fs: &mut FuncState, e1: &mut ExprContext, e2: &mut ExprContext) -> Re
     Ok(())
 }
 
+// Whether the value is a `Concat` that is still to get its register.
+fn is_concat(fs: &FuncState, e: &ExprContext) -> bool
+    ensures { (is_kind Relocable e.now && is_op Concat (word fs.now.code.now e.now.info)) ≡ result }
+{
+    is_relocable(fs.code, e, OpCode::Concat)
+}
+
 // A concatenation on the right is lengthened to the left; another value goes to the next register.
 #[tactic(auto, using(instructions::specs::Laws::set_b_mod), unfolding(model::specs::Steps::and_then, model::specs::Operators::join_concat))]
 fn join_concat(
@@ -232,7 +250,7 @@ fn join_concat(
     ensures { Makes (join_concat e1.old e2.old) fs.old result fs.new e1.new }
 {
     exp2val(fs, e2)?;
-    if is_relocable(fs, e2, OpCode::Concat) {
+    if is_concat(fs, e2) {
         free_expr(fs, e1);
         set_b_at(fs.code, e2.info, (e1.info % B_SIZE) as u32);
         e1.kind = ExprKind::Relocable;

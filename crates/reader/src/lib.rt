@@ -45,7 +45,25 @@ impl<'a> Reader<'a> {
     }
 }
 
-// The text at a place of a slice, by a reader made there. `cursor::text_at` says the same; this one stays since the edit read_text_the_first is made on it.
+// From a slice and a place, by a reader made there: what chunk, nodes and variables read through, and what theorem `reads` speaks of. `cursor::byte_at` .. `text_at` say the same.
+pub fn read_byte(bytes: &[u8], at: usize) -> Option<u8>
+    ensures { byte_at bytes.now at ≡ result }
+{
+    reader_at(bytes, at).get_byte()
+}
+
+pub fn read_line(bytes: &[u8], at: usize) -> Option<u32>
+    ensures { line_at bytes.now at ≡ result }
+{
+    reader_at(bytes, at).get_line()
+}
+
+pub fn read_bits(bytes: &[u8], at: usize) -> Option<u64>
+    ensures { bits_at bytes.now at ≡ result }
+{
+    reader_at(bytes, at).get_bits()
+}
+
 pub fn read_text(bytes: &[u8], at: usize) -> Option<Text>
     ensures { text_at bytes.now at ≡ result }
 {

@@ -10,7 +10,6 @@ ghost use Rattle.variables.specs.Found.{found_is, newest};
 
 use chunk::header::Header;
 use cursor::Text;
-use reader::reader_at;
 
 // Whether two texts of the chunk have the same bytes.
 fn same_text(chunk: &[u8], a: Text, b: Text) -> bool
@@ -43,7 +42,7 @@ pub fn search_local(chunk: &[u8], h: Header, t: Text) -> Option<usize>
     let mut at = h.names;
     let mut last = None;
     for i in 0..h.locals {
-        let name = reader_at(chunk, at).get_text()?;
+        let name = reader::read_text(chunk, at)?;
         at = name.start + name.len;
         last = newer(chunk, name, t, i, last);
     }

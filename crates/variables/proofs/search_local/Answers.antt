@@ -8,5 +8,5 @@ use Rattle.variables.proofs.search_local.Goals as goal
 pub loop-i-preserved : goal.loop-i-preserved
 loop-i-preserved c =
     let e : c.args.h.locals - (c.loop-i.i + 1) ≡ c.args.h.locals - c.loop-i.i - 1 = omega arith in
-    let text : text_at c.args.chunk.now c.loop-i.at ≡ Some c.in_ok-name.name = rw (c.reader_at.ensures.0, c.reader_at.ensures.1) at (c.get_text.ensures ∙ c.in_ok-name.was) in
+    let text : text_at c.args.chunk.now c.loop-i.at ≡ Some c.in_ok-name.name = c.read_text.ensures ∙ c.in_ok-name.was in
     rw (e, ← c.newer-last.ensures) (c.loop-i.invariant ∙ sought_more _ _ _ _ _ (c.args.h.locals - c.loop-i.i) _ (omega arith) text)

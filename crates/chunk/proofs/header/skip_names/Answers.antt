@@ -8,5 +8,5 @@ use Rattle.chunk.proofs.header.skip_names.Goals as goal
 pub loop-preserved : goal.loop-preserved
 loop-preserved c =
     let e : c.args.count - (c.loop.counter + 1) ≡ c.args.count - c.loop.counter - 1 = omega arith in
-    let text : text_at c.args.chunk.now c.loop.next ≡ Some c.in_ok-t.t = rw (c.reader_at.ensures.0, c.reader_at.ensures.1) at c.in_ok-t.ensures in
+    let text : text_at c.args.chunk.now c.loop.next ≡ Some c.in_ok-t.t = c.in_ok-t.ensures in
     rw e (c.loop.invariant ∙ skip_more _ _ (c.args.count - c.loop.counter) _ (omega arith) text)

@@ -8,6 +8,6 @@ use Rattle.nodes.proofs.skip.skip_method_call.Goals as goal
 pub returns : goal.returns
 unfolding fields_at
 returns c =
-    let there : c.get_text.result ≡ Some c.in_ok-t.t = grind arith in
-    let text : text_at c.args.chunk.now c.args.at ≡ Some c.in_ok-t.t = rw (c.reader_at.ensures.0, c.reader_at.ensures.1) at (c.get_text.ensures ∙ there) in
+    let there : c.read_text.result ≡ Some c.in_ok-t.t = grind arith in
+    let text : text_at c.args.chunk.now c.args.at ≡ Some c.in_ok-t.t = c.read_text.ensures ∙ there in
     λ va. rw text (c.skip_call.ensures _)
